@@ -1,0 +1,4 @@
+pub mod AgesFlow
+pub mod Class
+pub mod Lent
+pub mod Analysis

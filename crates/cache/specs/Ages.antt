@@ -1,0 +1,92 @@
+-- Must and may ages of one touch, their meeting and their start. Document 01, "Ages and equations".
+-- A row has an age for each of `count` columns; a column is a block, known by its set key and by its limit, the age of a block that
+-- is absent (document 01's A).
+use Prim.Native.Nat.{ℕ, zero, suc, _≤_, _<_, min, max}
+use mathlib.Core.Path.{_≡_}
+use mathlib.Core.Bool.{Bool, true, false, cond, _&&_}
+use mathlib.Core.List.{List, [], _∷_}
+use lib.ListN.{getD, length}
+use lib.Dec.{eqb, ltb, leb}
+use Rattle.lists.specs.Lists.{listOf}
+
+pub record Columns : Type 0 where
+  pub count : ℕ
+  pub key : ℕ → ℕ
+  pub limit : ℕ → ℕ
+
+-- "for each chart block a must age (upper bound, 0 to A) and a may age (lower bound, 0 to A)"
+pub record Ages : Type 0 where
+  pub must : List ℕ
+  pub may : List ℕ
+
+abbrev pub ageOf : List ℕ → ℕ → ℕ
+ageOf row block = getD row block 0
+
+-- ---- a touch of m, on the ages of all blocks
+
+-- "below h grows by one"
+unfoldable pub mustGrown : ℕ → ℕ → ℕ
+mustGrown h age = cond (ltb age h) (suc age) age
+
+-- "at or below h grows by one, never past A"
+unfoldable pub mayGrown : ℕ → ℕ → ℕ → ℕ
+mayGrown limit h age = cond (leb age h) (min limit (suc age)) age
+
+-- "Reference to m of must age h: m becomes 0; another block of the same set below h grows by one; all else stays."
+unfoldable pub mustAfter : (ℕ → ℕ) → ℕ → (ℕ → ℕ) → ℕ → ℕ
+mustAfter key m age block =
+    cond (eqb block m) 0 (cond (eqb (key block) (key m)) (mustGrown (age m) (age block)) (age block))
+
+-- "Reference to m of may age h: m becomes 0; another block of the same set at or below h grows by one, never past A; all else stays."
+unfoldable pub mayAfter : (ℕ → ℕ) → (ℕ → ℕ) → ℕ → (ℕ → ℕ) → ℕ → ℕ
+mayAfter key limit m age block =
+    cond (eqb block m) 0 (cond (eqb (key block) (key m)) (mayGrown (limit block) (age m) (age block)) (age block))
+
+-- ---- the same on rows
+
+abbrev pub sameRow : List ℕ → List ℕ → Bool
+sameRow [] [] = true
+sameRow [] (y ∷ ys) = false
+sameRow (x ∷ xs) [] = false
+sameRow (x ∷ xs) (y ∷ ys) = eqb x y && sameRow xs ys
+
+unfoldable pub sameAges : Ages → Ages → Bool
+sameAges a b = sameRow (a .must) (b .must) && sameRow (a .may) (b .may)
+
+module _ (columns : Columns) where
+  unfoldable pub touchAges : ℕ → Ages → Ages
+  touchAges m a =
+      record {
+        must = listOf (columns .count) (mustAfter (columns .key) m (ageOf (a .must)));
+        may = listOf (columns .count) (mayAfter (columns .key) (columns .limit) m (ageOf (a .may)));
+      }
+
+  -- "Meeting: must takes the larger, may the smaller."
+  unfoldable pub meetAges : Ages → Ages → Ages
+  meetAges a b =
+      record {
+        must = listOf (columns .count) (λ block. max (ageOf (a .must) block) (ageOf (b .must) block));
+        may = listOf (columns .count) (λ block. min (ageOf (a .may) block) (ageOf (b .may) block));
+      }
+
+  -- "Start: must is A everywhere; may is 0 everywhere if unknown, A everywhere if empty."
+  unfoldable pub startAges : Bool → Ages
+  startAges empty =
+      record {
+        must = listOf (columns .count) (columns .limit);
+        may = listOf (columns .count) (λ block. cond empty (columns .limit block) 0);
+      }
+
+  -- ---- which rows are rows of a table, and which of two is tighter
+
+  -- "ages at most A"
+  pub record Within (a : Ages) : Type 0 where
+    pub must-long : length (a .must) ≡ columns .count
+    pub may-long : length (a .may) ≡ columns .count
+    pub must-most : (block : ℕ) → block < columns .count → ageOf (a .must) block ≤ columns .limit block
+    pub may-most : (block : ℕ) → block < columns .count → ageOf (a .may) block ≤ columns .limit block
+
+  -- "must ages no less and may ages no more": those of b than those of a
+  pub record Tighter (a b : Ages) : Type 0 where
+    pub must-less : (block : ℕ) → block < columns .count → ageOf (a .must) block ≤ ageOf (b .must) block
+    pub may-more : (block : ℕ) → block < columns .count → ageOf (b .may) block ≤ ageOf (a .may) block

@@ -1,0 +1,19 @@
+-- Laws of shifts and masks by a variable width.
+use mathlib.Core.Path.{_≡_}
+use Prim.Native.Nat.{ℕ, zero, _*_, _/_, _%_, _^_, _≤_, _<_}
+use native.Mathlib.Nat.{one-mul, mod-eq-of-lt, div-eq-of-lt, lt-of-lt-of-le}
+use lib.Pow.{pow-pos, pow-mono, pow-lt}
+
+-- `1 << k` of a type of w bits
+pub one-shifted : (w k : ℕ) → k < w → (1 * 2 ^ k) % 2 ^ w ≡ 2 ^ k
+one-shifted w k h = rw one-mul (mod-eq-of-lt (pow-lt h))
+
+pub one-shifted-pos : (w k : ℕ) → k < w → zero < (1 * 2 ^ k) % 2 ^ w
+one-shifted-pos w k h = rw (one-shifted w k h) (pow-pos k)
+
+-- A number of w bits, shifted and masked by w or more.
+pub all-shifted-out : (w k n : ℕ) → w ≤ k → n < 2 ^ w → n / 2 ^ k ≡ 0
+all-shifted-out w k n h s = div-eq-of-lt (lt-of-lt-of-le s (pow-mono h))
+
+pub none-masked : (w k n : ℕ) → w ≤ k → n < 2 ^ w → n % 2 ^ k ≡ n
+none-masked w k n h s = mod-eq-of-lt (lt-of-lt-of-le s (pow-mono h))

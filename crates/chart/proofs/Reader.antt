@@ -1,0 +1,149 @@
+-- Laws of the reader: the nodes' blocks gathered or one too many, the records' refusals, and the header's before them.
+use mathlib.Core.Bool.{Bool, true, false, cond}
+use mathlib.Core.List.{List, [], _∷_, _++_}
+use mathlib.Core.Path.{_≡_, refl, sym, ap, subst, _∙_}
+use Prim.Native.Nat.{ℕ, _+_, _*_, _-_, _≤_, _<_}
+use native.Mathlib.Omega.{arith}
+use borrow.Author.Tests.{lt-ltb, le-ltb, ltb-false, eqb-true, not-false}
+use lib.Dec.{ltb, eqb}
+use lib.ListN.{length, take}
+use Rattle.lists.specs.Choice.{Rule, _⇒_, firstRule, firstFrom, first}
+use Rattle.lists.specs.Lists.{padded}
+use Rattle.lists.proofs.Choice.{NoneApplies, none-applies, first-found, first-ends}
+use Rattle.chart.specs.declared.blocks.Gathered.{Gathered}
+use Rattle.chart.specs.declared.blocks.Gathered.the-variants.{Blocks, TooMany}
+use Rattle.chart.specs.declared.headers.Header.{Header}
+use Rattle.chart.specs.declared.headers.HeaderRead.the-variants as read
+use Rattle.chart.specs.declared.readings.Verdict.the-variants as verdict
+use Rattle.chart.specs.declared.records.Record.{Record}
+use Rattle.chart.specs.declared.refusals.Refusal.{Refusal}
+use Rattle.chart.specs.declared.refusals.Refusal.the-variants.{BrokenRecord, TooManyBlocks}
+use Rattle.chart.specs.declared.shape.Geometry.{Geometry}
+use Rattle.chart.specs.Blocks.{insertAll, gathered, overfull, Laid}
+use Rattle.chart.specs.Chart.{Read, accepted, refused, chartOf, touchesAt, firstBroken, firstOverfull, recordRules, readChart}
+use Rattle.chart.specs.Geometry.{mostBlocks}
+use Rattle.chart.specs.Header.{headerOf, headerRules, headerRead}
+use Rattle.chart.specs.Layout.{wordAt}
+use Rattle.chart.specs.Record.{recordOf, touchesOf}
+use Rattle.chart.specs.Reading.{readingOf, Gathers}
+use Rattle.chart.proofs.Listings.{gather-more}
+
+-- ---- the blocks of all nodes, or the first node that brings one too many
+
+abbrev pub over : List ℕ → Geometry → ℕ → Bool
+over bytes geometry n = overfull mostBlocks (touchesAt geometry bytes) n
+
+-- A turn: the blocks of node n's record put into those of the nodes before it.
+pub gather-turn : (bytes : List ℕ) (geometry : Geometry) (n count : ℕ) (array : List ℕ) → count ≤ mostBlocks → count ≡ length (gathered (touchesAt geometry bytes) n) → array ≡ padded mostBlocks (gathered (touchesAt geometry bytes) n)
+    → (word : ℕ) (what : Record) → word ≡ wordAt bytes (n + 1) → what ≡ recordOf word
+    → (more : ℕ) (after : List ℕ) → Laid mostBlocks (insertAll (touchesOf geometry what) (take count array)) more after → Laid mostBlocks (gathered (touchesAt geometry bytes) (n + 1)) more after
+gather-turn bytes geometry n count array short counted laid word what at is more after h =
+    gather-more mostBlocks (touchesAt geometry bytes) n count array short counted laid more after
+    (subst (λ (r : Record). Laid mostBlocks (insertAll (touchesOf geometry r) (take count array)) more after) (is ∙ ap recordOf at) h)
+
+module _ (bytes : List ℕ) (geometry : Geometry) (nodes n : ℕ) (array : List ℕ) (come : first nodes (over bytes geometry) ≡ firstFrom n (nodes - n) (over bytes geometry)) where
+  pub gathers-over : n < nodes → over bytes geometry n ≡ true → Gathers bytes geometry nodes (TooMany n) array
+  unfolding firstOverfull
+  gathers-over h t =
+      let e : firstOverfull bytes geometry nodes ≡ n = first-found nodes n (over bytes geometry) h t come in
+      record {
+        answered = rw (e, lt-ltb n nodes h);
+        laid = λ f. absurd (omega (arith, ltb-false (firstOverfull bytes geometry nodes) nodes f));
+      }
+
+  pub gathers-all : n ≤ nodes → nodes ≤ n → (count : ℕ) → count ≡ length (gathered (touchesAt geometry bytes) n) → array ≡ padded mostBlocks (gathered (touchesAt geometry bytes) n) → Gathers bytes geometry nodes (Blocks count) array
+  unfolding firstOverfull
+  gathers-all k h count counted laid =
+      let e : firstOverfull bytes geometry nodes ≡ n = first-ends nodes n (over bytes geometry) h come in
+      let q : n ≡ nodes = omega arith in
+      record {
+        answered = rw (e, le-ltb n nodes h, ← q) (ap Blocks counted);
+        laid = λ _. rw (← q) laid;
+      }
+
+-- ---- the records under a header
+
+abbrev overIn : List ℕ → Header → ℕ
+overIn bytes header = firstOverfull bytes (header .geometry) (header .nodes)
+
+abbrev blocksIn : List ℕ → Header → List ℕ
+blocksIn bytes header = gathered (touchesAt (header .geometry) bytes) (header .nodes)
+
+abbrev pub recordsRead : List ℕ → Header → Read
+recordsRead bytes header = firstRule refused (recordRules bytes header) (accepted (chartOf bytes header))
+
+module _ (bytes : List ℕ) (header : Header) (broken : ℕ) (found : broken ≡ firstBroken bytes (header .nodes)) where
+  pub records-broken : broken < header .nodes → recordsRead bytes header ≡ refused (BrokenRecord broken)
+  records-broken h = rw (← found, lt-ltb broken (header .nodes) h)
+
+  module _ (whole : header .nodes ≤ broken) (answer : Gathered) (array : List ℕ) (gathers : Gathers bytes (header .geometry) (header .nodes) answer array) where
+    unbroken : recordsRead bytes header ≡ cond (ltb (overIn bytes header) (header .nodes)) (refused (TooManyBlocks (overIn bytes header))) (accepted (chartOf bytes header))
+    unbroken = rw (← found, le-ltb broken (header .nodes) whole)
+
+    pub records-over : (node : ℕ) → answer ≡ TooMany node → recordsRead bytes header ≡ refused (TooManyBlocks node)
+    records-over node q = unbroken ∙ go (ltb (overIn bytes header) (header .nodes)) (sym (gathers .answered) ∙ q)
+      where
+        go : (t : Bool) → cond t (TooMany (overIn bytes header)) (Blocks (length (blocksIn bytes header))) ≡ TooMany node
+            → cond t (refused (TooManyBlocks (overIn bytes header))) (accepted (chartOf bytes header)) ≡ refused (TooManyBlocks node)
+        go true d = cc
+        go false d = let z : _≡_ {A = ℕ} 0 1 = cc in absurd (omega arith)
+
+    pub records-kept : (count : ℕ) → answer ≡ Blocks count → record { verdict = verdict.Accepted header count; blocks = array } ≡ readingOf (recordsRead bytes header)
+    unfolding readingOf
+    records-kept count q = sym (ap readingOf unbroken ∙ go (ltb (overIn bytes header) (header .nodes)) (sym (gathers .answered) ∙ q) (gathers .laid))
+      where
+        go : (t : Bool) → cond t (TooMany (overIn bytes header)) (Blocks (length (blocksIn bytes header))) ≡ Blocks count
+            → (t ≡ false → array ≡ padded mostBlocks (blocksIn bytes header))
+            → readingOf (cond t (refused (TooManyBlocks (overIn bytes header))) (accepted (chartOf bytes header))) ≡ record { verdict = verdict.Accepted header count; blocks = array }
+        go true d laid = let z : _≡_ {A = ℕ} 0 1 = cc in absurd (omega arith)
+        go false d laid =
+            let e : length (blocksIn bytes header) ≡ count = cc in
+            let k : array ≡ padded mostBlocks (blocksIn bytes header) = laid refl in
+            rw (← k, e)
+
+-- ---- the header before them
+
+first-otherwise : {X Y : Type 0} (say : X → Y) (rules : List (Rule X)) (y : Y) → NoneApplies rules → firstRule say rules y ≡ y
+first-otherwise say [] y none = refl
+first-otherwise say ((test ⇒ answer) ∷ rules) y none = rw (none .0) (first-otherwise say rules y (none .1))
+
+first-after : {X Y : Type 0} (say : X → Y) (rules more : List (Rule X)) (y : Y) → NoneApplies rules → firstRule say (rules ++ more) y ≡ firstRule say more y
+first-after say [] more y none = refl
+first-after say ((test ⇒ answer) ∷ rules) more y none = rw (none .0) (first-after say rules more y (none .1))
+
+first-refused : (rules more : List (Rule Refusal)) (header : Header) (refusal : Refusal) (y : Read) → firstRule read.Refused rules (read.Accepted header) ≡ read.Refused refusal → firstRule refused (rules ++ more) y ≡ refused refusal
+first-refused [] more header refusal y e = let z : _≡_ {A = ℕ} 0 1 = cc in absurd (omega arith)
+first-refused ((test ⇒ answer) ∷ rules) more header refusal y e = go test e (first-refused rules more header refusal y)
+  where
+    go : (t : Bool) → cond t (read.Refused answer) (firstRule read.Refused rules (read.Accepted header)) ≡ read.Refused refusal
+        → (firstRule read.Refused rules (read.Accepted header) ≡ read.Refused refusal → firstRule refused (rules ++ more) y ≡ refused refusal)
+        → cond t (refused answer) (firstRule refused (rules ++ more) y) ≡ refused refusal
+    go true e rest = cc
+    go false e rest = rest e
+
+pub read-refuses : (bytes : List ℕ) (refusal : Refusal) → headerRead bytes ≡ read.Refused refusal → readChart bytes ≡ refused refusal
+unfolding headerRead readChart
+read-refuses bytes refusal e =
+    first-refused (headerRules bytes) (recordRules bytes (headerOf (wordAt bytes 0))) (headerOf (wordAt bytes 0)) refusal (accepted (chartOf bytes (headerOf (wordAt bytes 0)))) e
+
+module _ (bytes : List ℕ) (header : Header) (taken : headerRead bytes ≡ read.Accepted header) where
+  no-refusal : NoneApplies (headerRules bytes)
+  unfolding headerRead
+  no-refusal = none-applies read.Refused (headerRules bytes) (read.Accepted (headerOf (wordAt bytes 0))) (read.Accepted header) (λ x q. let z : _≡_ {A = ℕ} 0 1 = cc in omega arith) taken
+
+  header-is : headerOf (wordAt bytes 0) ≡ header
+  unfolding headerRead
+  header-is =
+      let e : read.Accepted (headerOf (wordAt bytes 0)) ≡ read.Accepted header = sym (first-otherwise read.Refused (headerRules bytes) (read.Accepted (headerOf (wordAt bytes 0))) no-refusal) ∙ taken in
+      cc
+
+  pub read-length : length bytes ≡ 8 + 8 * header .nodes
+  read-length =
+      let n : (length bytes ≡ 8 + 8 * headerOf (wordAt bytes 0) .nodes) = eqb-true (length bytes) (8 + 8 * headerOf (wordAt bytes 0) .nodes) (not-false (eqb (length bytes) (8 + 8 * headerOf (wordAt bytes 0) .nodes)) (no-refusal .1 .1 .1 .1 .1 .1 .1 .0)) in
+      n ∙ ap (λ (h : Header). 8 + 8 * h .nodes) header-is
+
+  pub read-accepts : readChart bytes ≡ recordsRead bytes header
+  unfolding readChart
+  read-accepts =
+      first-after refused (headerRules bytes) (recordRules bytes (headerOf (wordAt bytes 0))) (accepted (chartOf bytes (headerOf (wordAt bytes 0)))) no-refusal
+      ∙ ap (recordsRead bytes) header-is

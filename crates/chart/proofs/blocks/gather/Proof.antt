@@ -1,0 +1,126 @@
+use borrow.Author.Needs.{needs}
+use mathlib.Core.Path.{_≡_}
+use Prim.Native.Nat.{_-_, _≤_}
+use lib.ListN.{length}
+use Rattle.lists.specs.Choice.{first, firstFrom}
+use Rattle.lists.specs.Lists.{padded}
+use Rattle.lists.proofs.Choice.{first-begins, first-passes}
+use Rattle.chart.specs.Blocks.{gathered}
+use Rattle.chart.specs.Chart.{touchesAt}
+use Rattle.chart.specs.Geometry.{mostBlocks}
+use Rattle.chart.proofs.Listings.{gathered-none, gather-listing, gather-over, gather-within}
+use Rattle.chart.proofs.Reader.{over, gather-turn, gathers-over, gathers-all}
+use Rattle.chart.proofs.blocks.gather.Statement.{statement}
+use Rattle.chart.proofs.blocks.gather.Tie as tie
+
+abbrev Inv-loop : tie.InvT-loop
+Inv-loop chart geometry nodes blocks₀ count₀ n₀ blocks count n =
+    (n ≤ nodes) × ((count ≤ mostBlocks) × ((length blocks ≡ length blocks₀)
+    × ((count ≡ length (gathered (touchesAt geometry chart) n)) × ((blocks ≡ padded mostBlocks (gathered (touchesAt geometry chart) n))
+    × (first nodes (over chart geometry) ≡ firstFrom n (nodes - n) (over chart geometry))))))
+
+abbrev μ-loop : tie.MeasureT-loop
+μ-loop chart geometry nodes blocks₀ count₀ n₀ blocks count n = nodes - n
+
+loop-holds : tie.Need-loop-holds Inv-loop μ-loop
+loop-holds c =
+    let s = c .before .before in
+    let t = touchesAt (s .args .geometry) (s .args .chart .now) in (
+      search needs,
+      (
+        search needs,
+        (
+          search needs,
+          (
+            rw (gathered-none t),
+            (rw (gathered-none t) (s .pre .1), first-begins (s .args .nodes) (over (s .args .chart .now) (s .args .geometry))),
+          ),
+        ),
+      ),
+    )
+
+add-word-at : tie.Need-add-word-at Inv-loop μ-loop
+add-word-at c = search needs
+
+word-at-requires : tie.Need-word-at-requires Inv-loop μ-loop
+word-at-requires c κs = search needs
+
+record-of-requires : tie.Need-record-of-requires Inv-loop μ-loop
+record-of-requires c κs = search needs
+
+put-record-requires : tie.Need-put-record-requires Inv-loop μ-loop
+put-record-requires c κs =
+    let a = c .before .before .before .before .before .before .before .args in
+    let l = c .before .before .before .before .loop in
+    gather-listing mostBlocks (touchesAt (a .geometry) (a .chart .now)) (l .n) (l .count) (l .blocks) (l .inv .1 .0) (l .inv .1 .1 .1 .0) (l .inv .1 .1 .1 .1 .0)
+
+same-length : tie.Need-same-length Inv-loop μ-loop
+same-length c = search needs
+
+returns : tie.Need-returns Inv-loop μ-loop
+returns c =
+    let a = c .before .before .before .before .before .before .before .before .before .before .before .args in
+    let l = c .before .before .before .before .before .before .before .before .loop in
+    let p = c .before .before .before .put-record in
+    let g = gather-turn (a .chart .now) (a .geometry) (l .n) (l .count) (l .blocks) (l .inv .1 .0) (l .inv .1 .1 .1 .0) (l .inv .1 .1 .1 .1 .0)
+    (c .before .before .before .before .before .word-at .result) (c .before .before .before .before .record-of .result) (c .before .before .before .before .before .word-at .ensures) (c .before .before .before .before .record-of .ensures) (p .result) (p .last .0) (p .ensures) in
+    gathers-over (a .chart .now) (a .geometry) (a .nodes) (l .n) (p .last .0) (l .inv .1 .1 .1 .1 .1) (c .before .before .before .before .before .before .before .loop-test .taken)
+    (gather-over mostBlocks (touchesAt (a .geometry) (a .chart .now)) (l .n) (p .result) (p .last .0) g (c .if1 .taken))
+
+add-n : tie.Need-add-n Inv-loop μ-loop
+add-n c = search needs
+
+loop-less : tie.Need-loop-less Inv-loop μ-loop
+loop-less c = search needs
+
+loop-again : tie.Need-loop-again Inv-loop μ-loop
+loop-again c =
+    let a = c .before .before .before .before .before .before .before .before .before .before .before .args in
+    let l = c .before .before .before .before .before .before .before .before .loop in
+    let p = c .before .before .before .put-record in
+    let g = gather-turn (a .chart .now) (a .geometry) (l .n) (l .count) (l .blocks) (l .inv .1 .0) (l .inv .1 .1 .1 .0) (l .inv .1 .1 .1 .1 .0)
+    (c .before .before .before .before .before .word-at .result) (c .before .before .before .before .record-of .result) (c .before .before .before .before .before .word-at .ensures) (c .before .before .before .before .record-of .ensures) (p .result) (p .last .0) (p .ensures) in (
+      search needs,
+      (
+        c .if1 .left,
+        (
+          search needs,
+          (
+            g .counted,
+            (
+              g .laid (c .if1 .left),
+              first-passes (a .nodes) (l .n) (over (a .chart .now) (a .geometry)) (c .before .before .before .before .before .before .before .loop-test .taken)
+                  (gather-within mostBlocks (touchesAt (a .geometry) (a .chart .now)) (l .n) (p .result) (p .last .0) g (c .if1 .left)) (l .inv .1 .1 .1 .1 .1),
+            ),
+          ),
+        ),
+      ),
+    )
+
+same-length-2 : tie.Need-same-length-2 Inv-loop μ-loop
+same-length-2 c = search needs
+
+returns-2 : tie.Need-returns-2 Inv-loop μ-loop
+returns-2 c =
+    let a = c .before .before .before .before .args in
+    let l = c .before .loop in
+    gathers-all (a .chart .now) (a .geometry) (a .nodes) (l .n) (l .blocks) (l .inv .1 .1 .1 .1 .1) (l .inv .0) (c .loop-test .left) (l .count) (l .inv .1 .1 .1 .0) (l .inv .1 .1 .1 .1 .0)
+
+pub gather-spec : {M : Type 1} → statement M
+gather-spec =
+    tie.close
+    (tie.spec
+    Inv-loop
+    μ-loop
+    loop-holds
+    add-word-at
+    word-at-requires
+    record-of-requires
+    put-record-requires
+    same-length
+    returns
+    add-n
+    loop-less
+    loop-again
+    same-length-2
+    returns-2)

@@ -1,0 +1,30 @@
+-- The cache's shape and its limits. Document 01, "What a chart carries".
+use Prim.Native.Nat.{ℕ, _/_, _%_, _^_}
+use mathlib.Core.Bool.{Bool, _&&_}
+use lib.Dec.{leb}
+use Rattle.chart.specs.declared.shape.Geometry.{Geometry}
+
+-- "The largest node, block and way counts belong to the geometry's type and are named once": the constants of `Geometry`.
+abbrev pub mostNodes : ℕ
+mostNodes = 256
+
+abbrev pub mostBlocks : ℕ
+mostBlocks = 64
+
+abbrev pub mostWays : ℕ
+mostWays = 8
+
+-- "block = address / 2^L, rounded down"
+unfoldable pub blockOf : Geometry → ℕ → ℕ
+blockOf geometry address = address / 2 ^ geometry .line
+
+-- "set = block mod 2^S"
+unfoldable pub setOf : Geometry → ℕ → ℕ
+setOf geometry block = block % 2 ^ geometry .sets
+
+abbrev pub between : ℕ → ℕ → ℕ → Bool
+between least most n = leb least n && leb n most
+
+-- "L: 2 to 8", "S: 0 to 8", "A: 1 to 8"
+unfoldable pub shapeAllowed : Geometry → Bool
+shapeAllowed geometry = between 2 8 (geometry .line) && (between 0 8 (geometry .sets) && between 1 mostWays (geometry .ways))

@@ -1,0 +1,31 @@
+-- How a chart's bytes carry its fields. Document 01, "What a chart carries":
+-- "A chart is bytes. Fields are packed without gaps, most significant bit first."
+-- The header and each record have 64 bits: a chart is a row of words of eight bytes, the header first.
+use Prim.Native.Nat.{ℕ, zero, suc, _+_, _*_, _/_, _%_, _^_}
+use mathlib.Core.List.{List, [], _∷_}
+use lib.ListN.{getD, drop}
+
+-- The number that n bytes from a place on make, the first the most significant. A byte past the end counts as 0.
+abbrev pub numberAt : List ℕ → ℕ → ℕ → ℕ
+numberAt bytes place zero = 0
+numberAt bytes place (suc n) = numberAt bytes place n * 256 + getD bytes (place + n) 0
+
+-- Word n: the header is word 0, and the record of node n word n + 1.
+unfoldable pub wordAt : List ℕ → ℕ → ℕ
+wordAt bytes n = numberAt bytes (8 * n) 8
+
+abbrev pub total : List ℕ → ℕ
+total [] = 0
+total (width ∷ widths) = width + total widths
+
+-- Field k of a word, where the fields have these widths: as many bits stand behind it as the fields after it have.
+abbrev pub field : List ℕ → ℕ → ℕ → ℕ
+field widths k word = word / 2 ^ total (drop (suc k) widths) % 2 ^ getD widths k 0
+
+-- The header's fields: edition, L, S, A, start, spare, N, entry, spare.
+abbrev pub headerWidths : List ℕ
+headerWidths = 8 ∷ 4 ∷ 4 ∷ 4 ∷ 2 ∷ 10 ∷ 12 ∷ 12 ∷ 8 ∷ []
+
+-- A record's fields: kind, address, number of arrows out, first arrow, second arrow, spare.
+abbrev pub recordWidths : List ℕ
+recordWidths = 2 ∷ 32 ∷ 2 ∷ 12 ∷ 12 ∷ 4 ∷ []

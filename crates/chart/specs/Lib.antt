@@ -1,0 +1,8 @@
+pub mod Layout
+pub mod Geometry
+pub mod Refusals
+pub mod Header
+pub mod Record
+pub mod Blocks
+pub mod Chart
+pub mod Reading

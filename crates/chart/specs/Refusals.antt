@@ -1,0 +1,77 @@
+-- The refusals' numbers, places and values. Document 01, "When the tool says no".
+use Prim.Native.Nat.{ℕ}
+use Rattle.chart.specs.declared.refusals.Refusal.{Refusal}
+use Rattle.chart.specs.declared.refusals.Refusal.the-variants.{TooShort, Edition, Shape, StartCode, NodeCount, EntryNode, SpareBits, Length, BrokenRecord, TooManyBlocks, ShortBuffer, Unsettled, NotPassing, BoundsLength, Costs, FloorAboveCeiling, FloorAtUnmarked}
+
+abbrev pub numberOf : Refusal → ℕ
+numberOf TooShort = 1
+numberOf Edition = 2
+numberOf Shape = 3
+numberOf StartCode = 4
+numberOf NodeCount = 5
+numberOf EntryNode = 6
+numberOf SpareBits = 7
+numberOf Length = 8
+numberOf (BrokenRecord node) = 9
+numberOf (TooManyBlocks node) = 10
+numberOf ShortBuffer = 11
+numberOf (Unsettled allowance blocks) = 12
+numberOf NotPassing = 13
+numberOf BoundsLength = 14
+numberOf Costs = 15
+numberOf (FloorAboveCeiling node) = 16
+numberOf (FloorAtUnmarked node) = 17
+
+-- The node at fault, and 0 where the table's last column says 0.
+abbrev pub placeOf : Refusal → ℕ
+placeOf TooShort = 0
+placeOf Edition = 0
+placeOf Shape = 0
+placeOf StartCode = 0
+placeOf NodeCount = 0
+placeOf EntryNode = 0
+placeOf SpareBits = 0
+placeOf Length = 0
+placeOf (BrokenRecord node) = node
+placeOf (TooManyBlocks node) = node
+placeOf ShortBuffer = 0
+placeOf (Unsettled allowance blocks) = 0
+placeOf NotPassing = 0
+placeOf BoundsLength = 0
+placeOf Costs = 0
+placeOf (FloorAboveCeiling node) = node
+placeOf (FloorAtUnmarked node) = node
+
+-- What an answer says, in the paper's numbers: 0 for "no refusal" and for every value that the answer does not have.
+pub record Said : Type 0 where
+  pub number : ℕ
+  pub place : ℕ
+  pub passes : ℕ
+  pub blocks : ℕ
+  pub low : ℕ
+  pub high : ℕ
+
+-- "Every refusal returns its number and place, with pass count, block count and totals 0,
+-- save that 12 also returns the allowance and B."
+abbrev pub refusalWith : ℕ → ℕ → Refusal → Said
+refusalWith passes blocks refusal =
+    record { number = numberOf refusal; place = placeOf refusal; passes = passes; blocks = blocks; low = 0; high = 0 }
+
+abbrev pub refusalSays : Refusal → Said
+refusalSays TooShort = refusalWith 0 0 TooShort
+refusalSays Edition = refusalWith 0 0 Edition
+refusalSays Shape = refusalWith 0 0 Shape
+refusalSays StartCode = refusalWith 0 0 StartCode
+refusalSays NodeCount = refusalWith 0 0 NodeCount
+refusalSays EntryNode = refusalWith 0 0 EntryNode
+refusalSays SpareBits = refusalWith 0 0 SpareBits
+refusalSays Length = refusalWith 0 0 Length
+refusalSays (BrokenRecord node) = refusalWith 0 0 (BrokenRecord node)
+refusalSays (TooManyBlocks node) = refusalWith 0 0 (TooManyBlocks node)
+refusalSays ShortBuffer = refusalWith 0 0 ShortBuffer
+refusalSays (Unsettled allowance blocks) = refusalWith allowance blocks (Unsettled allowance blocks)
+refusalSays NotPassing = refusalWith 0 0 NotPassing
+refusalSays BoundsLength = refusalWith 0 0 BoundsLength
+refusalSays Costs = refusalWith 0 0 Costs
+refusalSays (FloorAboveCeiling node) = refusalWith 0 0 (FloorAboveCeiling node)
+refusalSays (FloorAtUnmarked node) = refusalWith 0 0 (FloorAtUnmarked node)

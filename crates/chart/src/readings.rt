@@ -1,0 +1,69 @@
+// The reader as a whole.
+ghost use mathlib.Core.Path.{_≡_};
+ghost use Prim.Native.Nat.{_+_, _*_};
+ghost use lib.ListN.{length};
+ghost use Rattle.lists.specs.Choice.{firstRule};
+ghost use Rattle.chart.specs.Chart.{accepted, refused, recordRules, chartOf};
+ghost use Rattle.chart.specs.Reading.{readingOf, reading};
+use crate::blocks::Gathered;
+use crate::blocks::gather;
+use crate::headers::Header;
+use crate::headers::HeaderRead;
+use crate::headers::read_header;
+use crate::records::first_broken;
+use crate::refusals::Refusal;
+use crate::shape::Geometry;
+
+// A chart with that many blocks, or why it is none.
+pub enum Verdict {
+    Accepted(Header, usize),
+    Refused(Refusal),
+}
+
+// The blocks stand at the start of the array, zeros after them; after a refusal there are zeros only.
+pub struct Reading {
+    pub verdict: Verdict,
+    pub blocks: [u32; Geometry::BLOCKS],
+}
+
+fn refuse(refusal: Refusal) -> Reading
+    ensures { λ r. ⌜ r ≡ readingOf (refused refusal) ⌝ }
+{
+    Reading {
+        verdict: Verdict::Refused(refusal),
+        blocks: [0u32; Geometry::BLOCKS],
+    }
+}
+
+// The records under a header, or the first of refusals 9 and 10 that applies.
+fn read_records(chart: &[u8], header: Header) -> Reading
+    requires { ⌜ length (now chart) ≡ 8 + 8 * header .nodes ⌝ }
+    ensures { λ r. ⌜ r ≡ readingOf (firstRule refused (recordRules (now (chart .entry)) header) (accepted (chartOf (now (chart .entry)) header))) ⌝ }
+{
+    let geometry = header.geometry;
+    let nodes = header.nodes;
+    let broken = first_broken(chart, nodes);
+    if broken < nodes {
+        return refuse(Refusal::BrokenRecord(broken));
+    }
+    let mut blocks = [0u32; Geometry::BLOCKS];
+    let gathered = gather(chart, geometry, nodes, &mut blocks);
+    match gathered {
+        Gathered::TooMany(node) => refuse(Refusal::TooManyBlocks(node)),
+        Gathered::Blocks(count) => Reading {
+            verdict: Verdict::Accepted(header, count),
+            blocks: blocks,
+        },
+    }
+}
+
+// What any bytes read as: a chart, or the first of refusals 1 to 10 that applies.
+pub fn read(chart: &[u8]) -> Reading
+    ensures { λ r. ⌜ r ≡ reading (now (chart .entry)) ⌝ }
+{
+    let header = read_header(chart);
+    match header {
+        HeaderRead::Accepted(header) => read_records(chart, header),
+        HeaderRead::Refused(refusal) => refuse(refusal),
+    }
+}

@@ -1,0 +1,46 @@
+// The cache's shape, the limits that go with it, and which block and which set an address falls into.
+ghost use mathlib.Core.Path.{_≡_};
+ghost use Rattle.chart.specs.Geometry.{blockOf, setOf};
+
+// A line is 2^line bytes, there are 2^sets sets of `ways` ways.
+pub struct Geometry {
+    pub line: u8,
+    pub sets: u8,
+    pub ways: u8,
+}
+
+impl Geometry {
+    // The most nodes of a chart, blocks of a chart and ways of a set.
+    pub const NODES: usize = 256;
+
+    pub const BLOCKS: usize = 64;
+
+    pub const WAYS: u8 = 8;
+
+    // The least and the most that a line's and the sets' exponents may be.
+    pub const LINE_FROM: u8 = 2;
+
+    pub const LINE_TO: u8 = 8;
+
+    pub const SETS_TO: u8 = 8;
+
+    // The block that holds an address.
+    pub fn block_of(self, address: u32) -> u32
+        ensures { λ r. ⌜ r ≡ blockOf self address ⌝ }
+    {
+        let line = self.line;
+        if line < 32 { address >> line } else { 0 }
+    }
+
+    // The set that a block belongs to.
+    pub fn set_of(self, block: u32) -> u32
+        ensures { λ r. ⌜ r ≡ setOf self block ⌝ }
+    {
+        let sets = self.sets;
+        if sets < 32 {
+            block % (1 << sets)
+        } else {
+            block
+        }
+    }
+}

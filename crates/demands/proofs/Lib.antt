@@ -1,0 +1,2 @@
+pub mod Soundings
+pub mod Mistakes

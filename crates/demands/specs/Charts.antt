@@ -1,0 +1,54 @@
+-- The charts of document 01's soundings, byte by byte. A read of address a with its arrows is 40 00 00 a/4 .. while a is below 400.
+use Prim.Native.Nat.{ℕ}
+use mathlib.Core.List.{List, [], _∷_, _++_}
+
+-- ---- headers of three nodes with entry 0 and 16-byte lines
+
+-- One set, two ways, empty; the same, unknown; one set, one way, unknown; two sets, one way, unknown.
+abbrev pub oneSetTwoWaysEmpty : List ℕ
+oneSetTwoWaysEmpty = 0x01 ∷ 0x40 ∷ 0x24 ∷ 0x00 ∷ 0x00 ∷ 0x30 ∷ 0x00 ∷ 0x00 ∷ []
+
+abbrev pub oneSetTwoWays : List ℕ
+oneSetTwoWays = 0x01 ∷ 0x40 ∷ 0x20 ∷ 0x00 ∷ 0x00 ∷ 0x30 ∷ 0x00 ∷ 0x00 ∷ []
+
+abbrev pub oneSetOneWay : List ℕ
+oneSetOneWay = 0x01 ∷ 0x40 ∷ 0x10 ∷ 0x00 ∷ 0x00 ∷ 0x30 ∷ 0x00 ∷ 0x00 ∷ []
+
+abbrev pub twoSetsOneWay : List ℕ
+twoSetsOneWay = 0x01 ∷ 0x41 ∷ 0x10 ∷ 0x00 ∷ 0x00 ∷ 0x30 ∷ 0x00 ∷ 0x00 ∷ []
+
+-- ---- charts
+
+-- "A chart and its report, whole": step 0 to node 1; node 1 reads 0 and leads to 1 and 2; node 2 reads 0.
+abbrev pub loopChart : List ℕ
+loopChart =
+    oneSetTwoWaysEmpty
+    ++ 0x00 ∷ 0x00 ∷ 0x00 ∷ 0x00 ∷ 0x10 ∷ 0x01 ∷ 0x00 ∷ 0x00
+    ∷ 0x40 ∷ 0x00 ∷ 0x00 ∷ 0x00 ∷ 0x20 ∷ 0x01 ∷ 0x00 ∷ 0x20
+    ∷ 0x40 ∷ 0x00 ∷ 0x00 ∷ 0x00 ∷ 0x00 ∷ 0x00 ∷ 0x00 ∷ 0x00
+    ∷ []
+
+-- Its report, a line here for each of its lines: nodes 3 blocks 1 passes 2, 0 none, 1 unsure, 2 hit.
+abbrev pub loopReport : List ℕ
+loopReport =
+    110 ∷ 111 ∷ 100 ∷ 101 ∷ 115 ∷ 32 ∷ 51 ∷ 32 ∷ 98 ∷ 108 ∷ 111 ∷ 99 ∷ 107 ∷ 115 ∷ 32 ∷ 49 ∷ 32 ∷ 112 ∷ 97 ∷ 115 ∷ 115 ∷ 101 ∷ 115 ∷ 32 ∷ 50 ∷ 10
+    ∷ 48 ∷ 32 ∷ 110 ∷ 111 ∷ 110 ∷ 101 ∷ 10
+    ∷ 49 ∷ 32 ∷ 117 ∷ 110 ∷ 115 ∷ 117 ∷ 114 ∷ 101 ∷ 10
+    ∷ 50 ∷ 32 ∷ 104 ∷ 105 ∷ 116 ∷ 10
+    ∷ []
+
+-- "Straight charts of three reads": 0x00, then 4 times `middle`, then 0x00, "an arrow from each to the next and none from the last".
+abbrev pub straightChart : List ℕ → ℕ → List ℕ
+straightChart header middle =
+    header
+    ++ 0x40 ∷ 0x00 ∷ 0x00 ∷ 0x00 ∷ 0x10 ∷ 0x01 ∷ 0x00 ∷ 0x00
+    ∷ 0x40 ∷ 0x00 ∷ 0x00 ∷ middle ∷ 0x10 ∷ 0x02 ∷ 0x00 ∷ 0x00
+    ∷ 0x40 ∷ 0x00 ∷ 0x00 ∷ 0x00 ∷ 0x00 ∷ 0x00 ∷ 0x00 ∷ 0x00
+    ∷ []
+
+-- An entry with an arrow into it: one node that reads 0 and leads to itself; one set, two ways, empty.
+abbrev pub entryLoopChart : List ℕ
+entryLoopChart =
+    0x01 ∷ 0x40 ∷ 0x24 ∷ 0x00 ∷ 0x00 ∷ 0x10 ∷ 0x00 ∷ 0x00
+    ∷ 0x40 ∷ 0x00 ∷ 0x00 ∷ 0x00 ∷ 0x10 ∷ 0x00 ∷ 0x00 ∷ 0x00
+    ∷ []

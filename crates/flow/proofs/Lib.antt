@@ -1,0 +1,4 @@
+pub mod Cells
+pub mod Settling
+pub mod Ending
+pub mod Reaching

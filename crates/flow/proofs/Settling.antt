@@ -1,0 +1,237 @@
+-- Every table that passes reach from the first is below every table that passes; a pass that changes nothing leaves a table that passes.
+use mathlib.Core.Path.{_≡_, refl, sym, ap, _∙_, subst}
+use mathlib.Core.Bool.{Bool, true, false, not, _||_, true≢false, false≢true}
+use mathlib.Core.List.{List, [], _∷_, _++_}
+use mathlib.Core.Logic.{_⊎_, inl, inr, _≢_}
+use Prim.Native.Nat.{ℕ, zero, suc, _+_, _*_, _≤_, _<_}
+use native.Mathlib.Omega.{arith}
+use native.Mathlib.Decide.{ℕ-discrete}
+use lib.ListN.{length, getD, set, replicate, length-set, length-replicate, getD-replicate}
+use lib.Seq.{getD-set-same, getD-set-other, set-getD}
+use Rattle.flow.specs.Flow.{Cell, blank, holds, cellAt, Among, Flow, Table}
+use Rattle.flow.specs.Passing.{CellBelow, CellOk, leaving, Under, Passing, Tightest}
+use Rattle.flow.specs.Pass.{Run, Outcome, settled, spent, met, changes, place, put, putAll, visitWith, visit, visits, pass, before, afterPasses, settleFrom, settle}
+use Rattle.flow.specs.Laws.{Laws}
+use Rattle.flow.proofs.Cells.{place-all, place-length, place-at, cell-in, real, cell-ok, cell-refl, cell-trans, met-left, met-right, met-least, met-real, met-still, leaving-monotone}
+
+module _ (F : Flow) (L : Laws F) where
+  -- What is known of every table on the way: it is long enough and well formed, it has the start, and it is below every table that passes.
+  pub record Fair (T : Table F) : Type 0 where
+    pub long : length T ≡ F .nodes
+    pub fine : (n : ℕ) → real F L n (cellAt T n)
+    pub begun : CellBelow F (holds (F .start)) (cellAt T (F .entry))
+    pub under : (P : Table F) → Passing F P → Under F T P
+
+  -- x may be met into t: t is a node, x is well formed, and no passing table has less at t.
+  pub record Due (t : ℕ) (x : F .State) : Type 0 where
+    pub inside : t < F .nodes
+    pub good : L .Real t x
+    pub owed : (P : Table F) → Passing F P → CellBelow F (holds x) (cellAt P t)
+
+  place-in : (T : Table F) (t : ℕ) → length T ≡ F .nodes → t < F .nodes → t < length T
+  place-in T t e h = omega arith
+
+  pub place-grows : (T : Table F) (t : ℕ) (x : F .State) → Fair T → Due t x → Under F T (place F T t x)
+  place-grows T t x f d =
+      place-all F (λ m c. CellBelow F (cellAt T m) c) T t x (place-in T t (f .long) (d .inside)) (met-left F L t (cellAt T t) x (f .fine t) (d .good)) (λ m. cell-refl F L (cellAt T m))
+
+  pub place-has : (T : Table F) (t : ℕ) (x : F .State) → Fair T → Due t x → CellBelow F (holds x) (cellAt (place F T t x) t)
+  place-has T t x f d = rw (place-at F T t x (place-in T t (f .long) (d .inside))) (met-right F L t (cellAt T t) x (f .fine t) (d .good))
+
+  pub place-fair : (T : Table F) (t : ℕ) (x : F .State) → Fair T → Due t x → Fair (place F T t x)
+  place-fair T t x f d = record {
+    long = place-length F T t x ∙ f .long;
+    fine = place-all F (λ m c. real F L m c) T t x b (met-real F L t (cellAt T t) x (f .fine t) (d .good)) (f .fine);
+    begun = cell-trans F L (holds (F .start)) (cellAt T (F .entry)) (cellAt (place F T t x) (F .entry)) (f .begun) (place-grows T t x f d (F .entry));
+    under = λ P p. place-all F (λ m c. CellBelow F c (cellAt P m)) T t x b (met-least F L t (cellAt T t) (cellAt P t) x (f .fine t) (p .fine t) (d .good) (f .under P p t) (d .owed P p)) (f .under P p);
+  }
+    where
+      b : t < length T
+      b = place-in T t (f .long) (d .inside)
+
+  pub place-still : (T : Table F) (t : ℕ) (x : F .State) → changes F (cellAt T t) x ≡ false → place F T t x ≡ T
+  unfolding place
+  place-still T t x e = rw (met-still F L (cellAt T t) x e) (set-getD T t blank)
+
+  -- what leaves a marked node is due at each of its targets
+  pub due : (T : Table F) (n : ℕ) (x : F .State) → Fair T → cellAt T n ≡ holds x → (t : ℕ) → Among t (F .arrows n) → Due (t) (F .step n x)
+  due T n x f e t i = record { inside = L .arrows-in n t b i; good = L .real-step n t x b i o; owed = w }
+    where
+      b : n < F .nodes
+      b = let h = cell-in F T n x e in let l = f .long in omega arith
+
+      o : L .Real n x
+      o = subst (real F L n) e (f .fine n)
+
+      w : (P : Table F) → Passing F P → CellBelow F (holds (F .step n x)) (cellAt P t)
+      w P p = cell-trans F L (leaving F n (holds x)) (leaving F n (cellAt P n)) (cellAt P t) (leaving-monotone F L n (holds x) (cellAt P n) b o (p .fine n) (subst (λ (c : Cell (F .State)). CellBelow F c (cellAt P n)) e (f .under P p n))) (p .closed n t i)
+
+  or-false : (a b : Bool) → (a || b) ≡ false → (a ≡ false) × (b ≡ false)
+  or-false true b e = absurd (true≢false e)
+  or-false false b e = (refl, e)
+
+  -- From one run to a later one: the table stays fair and only grows, and where nothing has changed it is the same.
+  pub record On (r s : Run (F .State)) : Type 0 where
+    pub fair : Fair (s .table)
+    pub grows : Under F (r .table) (s .table)
+    pub still : s .changed ≡ false → (s .table ≡ r .table) × (r .changed ≡ false)
+
+  on-refl : (r : Run (F .State)) → Fair (r .table) → On r r
+  on-refl r f = record { fair = f; grows = λ n. cell-refl F L (cellAt (r .table) n); still = λ e. (refl, e) }
+
+  on-trans : (r s u : Run (F .State)) → On r s → On s u → On r u
+  on-trans r s u h k = record {
+    fair = k .fair;
+    grows = λ n. cell-trans F L (cellAt (r .table) n) (cellAt (s .table) n) (cellAt (u .table) n) (h .grows n) (k .grows n);
+    still = λ e. (k .still e .0 ∙ h .still (k .still e .1) .0, h .still (k .still e .1) .1);
+  }
+
+  pub put-on : (x : F .State) (t : ℕ) (r : Run (F .State)) → Fair (r .table) → Due t x → On r (put F x t r)
+  unfolding put
+  put-on x t r f d = record {
+    fair = place-fair (r .table) t x f d;
+    grows = place-grows (r .table) t x f d;
+    still = λ e. let o = or-false (r .changed) (changes F (cellAt (r .table) t) x) e in (place-still (r .table) t x (o .1), o .0);
+  }
+
+  pub putAll-on : (x : F .State) (ts : List ℕ) (r : Run (F .State)) → Fair (r .table) → ((t : ℕ) → Among t ts → Due t x) → On r (putAll F x ts r)
+  unfolding putAll
+  putAll-on x [] r f d = on-refl r f
+  putAll-on x (t ∷ ts) r f d =
+      let h = put-on x t r f (d t (inl refl)) in
+      on-trans r (put F x t r) (putAll F x ts (put F x t r)) h (putAll-on x ts (put F x t r) (h .fair) (λ u i. d u (inr i)))
+
+  pub putAll-has : (x : F .State) (ts : List ℕ) (r : Run (F .State)) → Fair (r .table) → ((t : ℕ) → Among t ts → Due t x) → (t : ℕ) → Among t ts
+      → CellBelow F (holds x) (cellAt (putAll F x ts r .table) t)
+  unfolding putAll put
+  putAll-has x [] r f d t i = absurd i
+  putAll-has x (u ∷ ts) r f d t (inl e) =
+      let h = put-on x u r f (d u (inl refl)) in
+      let k = putAll-on x ts (put F x u r) (h .fair) (λ v i. d v (inr i)) in
+      cell-trans F L (holds x) (cellAt (put F x u r .table) t) (cellAt (putAll F x ts (put F x u r) .table) t) (rw e (place-has (r .table) u x f (d u (inl refl)))) (k .grows t)
+  putAll-has x (u ∷ ts) r f d t (inr i) = putAll-has x ts (put F x u r) (put-on x u r f (d u (inl refl)) .fair) (λ v j. d v (inr j)) t i
+
+  visitWith-on : (n : ℕ) (c : Cell (F .State)) (r : Run (F .State)) → cellAt (r .table) n ≡ c → Fair (r .table) → On r (visitWith F n c r)
+  unfolding visitWith
+  visitWith-on n blank r e f = on-refl r f
+  visitWith-on n (holds x) r e f = putAll-on (F .step n x) (F .arrows n) r f (due (r .table) n x f e)
+
+  pub visit-on : (n : ℕ) (r : Run (F .State)) → Fair (r .table) → On r (visit F n r)
+  unfolding visit
+  visit-on n r f = visitWith-on n (cellAt (r .table) n) r refl f
+
+  visitWith-has : (n : ℕ) (c : Cell (F .State)) (r : Run (F .State)) → cellAt (r .table) n ≡ c → Fair (r .table) → (t : ℕ) → Among t (F .arrows n)
+      → CellBelow F (leaving F n c) (cellAt (visitWith F n c r .table) t)
+  unfolding visitWith
+  visitWith-has n blank r e f t i = tt
+  visitWith-has n (holds x) r e f t i = putAll-has (F .step n x) (F .arrows n) r f (due (r .table) n x f e) t i
+
+  pub visit-has : (n : ℕ) (r : Run (F .State)) → Fair (r .table) → (t : ℕ) → Among t (F .arrows n) → CellBelow F (leaving F n (cellAt (r .table) n)) (cellAt (visit F n r .table) t)
+  unfolding visit
+  visit-has n r f t i = visitWith-has n (cellAt (r .table) n) r refl f t i
+
+  pub visits-on : (k : ℕ) (r : Run (F .State)) → Fair (r .table) → On r (visits F k r)
+  unfolding visits
+  visits-on zero r f = on-refl r f
+  visits-on (suc k) r f =
+      let h = visits-on k r f in
+      on-trans r (visits F k r) (visit F k (visits F k r)) h (visit-on k (visits F k r) (h .fair))
+
+  -- visits that changed nothing have looked at every arrow
+  pub visits-closed : (k : ℕ) (r : Run (F .State)) → Fair (r .table) → visits F k r .changed ≡ false → (n t : ℕ) → n < k → Among t (F .arrows n)
+      → CellBelow F (leaving F n (cellAt (r .table) n)) (cellAt (r .table) t)
+  unfolding visits
+  visits-closed zero r f e n t h i = absurd (omega arith)
+  visits-closed (suc k) r f e n t h i = go (ℕ-discrete n k) (λ q l. visits-closed k r f q n t l i)
+    where
+      a : On r (visits F k r)
+      a = visits-on k r f
+
+      b : On (visits F k r) (visit F k (visits F k r))
+      b = visit-on k (visits F k r) (a .fair)
+
+      same-tab : visit F k (visits F k r) .table ≡ r .table
+      same-tab = b .still e .0 ∙ a .still (b .still e .1) .0
+
+      go : Dec (n ≡ k) → (visits F k r .changed ≡ false → n < k → CellBelow F (leaving F n (cellAt (r .table) n)) (cellAt (r .table) t)) → CellBelow F (leaving F n (cellAt (r .table) n)) (cellAt (r .table) t)
+      go (yes p) ih = subst (λ (T : Table F). CellBelow F (leaving F n (cellAt (r .table) n)) (cellAt T t)) same-tab
+          (subst (λ (T : Table F). CellBelow F (leaving F n (cellAt T n)) (cellAt (visit F k (visits F k r) .table) t)) (a .still (b .still e .1) .0)
+          (rw p (visit-has k (visits F k r) (a .fair) t (rw (← p) i))))
+      go (no q) ih = ih (b .still e .1) (omega arith)
+
+  pub pass-fair : (T : Table F) → Fair T → Fair (pass F T .table)
+  unfolding pass
+  pass-fair T f = visits-on (F .nodes) (record { table = T; changed = false }) f .fair
+
+  pub pass-still : (T : Table F) → Fair T → pass F T .changed ≡ false → pass F T .table ≡ T
+  unfolding pass
+  pass-still T f e = visits-on (F .nodes) (record { table = T; changed = false }) f .still e .0
+
+  -- 2. A pass that changes nothing: the table passes.
+  pub still-passes : (T : Table F) → Fair T → pass F T .changed ≡ false → Passing F T
+  unfolding pass
+  still-passes T f e = record { long = f .long; fine = λ n. cell-ok F L n (cellAt T n) (f .fine n); begun = f .begun; closed = λ n t i. go n t i (cellAt T n) refl }
+    where
+      go : (n t : ℕ) → Among t (F .arrows n) → (c : Cell (F .State)) → cellAt T n ≡ c → CellBelow F (leaving F n (cellAt T n)) (cellAt T t)
+      go n t i blank q = rw q tt
+      go n t i (holds x) q =
+          let b = cell-in F T n x q in
+          let l = f .long in
+          visits-closed (F .nodes) (record { table = T; changed = false }) f e n t (omega arith) i
+
+  pub fair-tightest : (T : Table F) → Fair T → Passing F T → Tightest F T
+  fair-tightest T f p = record { passes = p; least = f .under }
+
+  before-at : cellAt (before F) (F .entry) ≡ holds (F .start)
+  unfolding before
+  before-at = getD-set-same (replicate (F .nodes) blank) (F .entry) (holds (F .start)) blank (rw length-replicate (L .entry-in))
+
+  blanks : (n m : ℕ) → cellAt {X = F .State} (replicate n blank) m ≡ blank
+  blanks zero m = refl
+  blanks (suc n) zero = refl
+  blanks (suc n) (suc m) = blanks n m
+
+  before-other : (m : ℕ) → m ≢ F .entry → cellAt (before F) m ≡ blank
+  unfolding before
+  before-other m h = getD-set-other (replicate (F .nodes) blank) (F .entry) m (holds (F .start)) blank h ∙ blanks (F .nodes) m
+
+  pub before-all : (Q : ℕ → Cell (F .State) → Type 0) → Q (F .entry) (holds (F .start)) → ((m : ℕ) → Q m blank) → (m : ℕ) → Q m (cellAt (before F) m)
+  before-all Q a b m = go (ℕ-discrete m (F .entry))
+    where
+      go : Dec (m ≡ F .entry) → Q m (cellAt (before F) m)
+      go (yes e) = subst (λ (k : ℕ). Q k (cellAt (before F) k)) (sym e) (rw before-at a)
+      go (no h) = rw (before-other m h) (b m)
+
+  before-length : length (before F) ≡ F .nodes
+  unfolding before
+  before-length = length-set (replicate (F .nodes) blank) (F .entry) (holds (F .start)) ∙ length-replicate (F .nodes) blank
+
+  pub before-fair : Fair (before F)
+  before-fair = record {
+    long = before-length;
+    fine = before-all (λ m c. real F L m c) (L .real-start) (λ m. tt);
+    begun = rw before-at (L .below-refl (F .start));
+    under = λ P p. before-all (λ m c. CellBelow F c (cellAt P m)) (p .begun) (λ m. tt);
+  }
+
+  -- 1. Every table that passes reach from the first is below every table that passes.
+  pub after-fair : (k : ℕ) → Fair (afterPasses F k)
+  unfolding afterPasses
+  after-fair zero = before-fair
+  after-fair (suc k) = pass-fair (afterPasses F k) (after-fair k)
+
+  pub after-under : (k : ℕ) (P : Table F) → Passing F P → Under F (afterPasses F k) P
+  after-under k = after-fair k .under
+
+  settleFrom-tight : (f c : ℕ) (T : Table F) (b : Bool) → Fair T → (b ≡ false → Passing F T) → (k : ℕ) (U : Table F) → settleFrom F f c T b ≡ settled k U → Tightest F U
+  unfolding settleFrom
+  settleFrom-tight zero c T false f p k U e = let q : T ≡ U = cc in subst (Tightest F) q (fair-tightest T f (p refl))
+  settleFrom-tight zero c T true f p k U e = let z : _≡_ {A = ℕ} 0 1 = cc in absurd (omega arith)
+  settleFrom-tight (suc n) c T false f p k U e = let q : T ≡ U = cc in subst (Tightest F) q (fair-tightest T f (p refl))
+  settleFrom-tight (suc n) c T true f p k U e =
+      settleFrom-tight n (suc c) (pass F T .table) (pass F T .changed) (pass-fair T f) (λ m. rw (pass-still T f m) (still-passes T f m)) k U e
+
+  -- The settled table is the tightest that passes.
+  pub settle-tight : (f k : ℕ) (U : Table F) → settle F f ≡ settled k U → Tightest F U
+  unfolding settle
+  settle-tight f k U e = settleFrom-tight f zero (before F) true before-fair (λ q. absurd (true≢false q)) k U e

@@ -1,0 +1,24 @@
+-- What the theory of passes asks of a flow.
+-- `Ok` is what a passing table has at each marked node, whoever made the table. `Real n` is what the states have, besides, that
+-- passes bring to node n: for a step that keeps the order only from such states, and for facts that are to be carried along. Where
+-- neither is needed, `Real n` is `Ok`.
+use mathlib.Core.Path.{_≡_}
+use mathlib.Core.Bool.{true}
+use Prim.Native.Nat.{ℕ, _<_}
+use Rattle.flow.specs.Flow.{Among, Flow}
+
+pub record Laws (F : Flow) : Type 1 where
+  pub Real : ℕ → F .State → Type 0
+  pub entry-in : F .entry < F .nodes
+  pub arrows-in : (n t : ℕ) → n < F .nodes → Among t (F .arrows n) → t < F .nodes
+  pub real-ok : (n : ℕ) (a : F .State) → Real n a → F .Ok a
+  pub real-start : Real (F .entry) (F .start)
+  pub real-step : (n t : ℕ) (a : F .State) → n < F .nodes → Among t (F .arrows n) → Real n a → Real t (F .step n a)
+  pub real-meet : (n : ℕ) (a b : F .State) → Real n a → Real n b → Real n (F .meet a b)
+  pub below-refl : (a : F .State) → F .Below a a
+  pub below-trans : (a b c : F .State) → F .Below a b → F .Below b c → F .Below a c
+  pub meet-left : (n : ℕ) (a b : F .State) → Real n a → Real n b → F .Below a (F .meet a b)
+  pub meet-right : (n : ℕ) (a b : F .State) → Real n a → Real n b → F .Below b (F .meet a b)
+  pub meet-least : (n : ℕ) (a b c : F .State) → Real n a → Real n b → F .Ok c → F .Below a c → F .Below b c → F .Below (F .meet a b) c
+  pub monotone : (n : ℕ) (a b : F .State) → n < F .nodes → Real n a → F .Ok b → F .Below a b → F .Below (F .step n a) (F .step n b)
+  pub same-yes : (a b : F .State) → F .same a b ≡ true → a ≡ b

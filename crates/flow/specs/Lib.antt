@@ -1,0 +1,5 @@
+pub mod Flow
+pub mod Passing
+pub mod Pass
+pub mod Laws
+pub mod Walk

@@ -1,0 +1,31 @@
+-- Lists by their elements, a list laid over the start of another, and a sum.
+use mathlib.Core.List.{List, [], _∷_, _++_}
+use Prim.Native.Nat.{ℕ, zero, suc, _+_, _-_}
+use lib.ListN.{length, drop, replicate}
+
+-- f k, f (k + 1), .. : n of them
+abbrev pub listFrom : {X : Type 0} → ℕ → ℕ → (ℕ → X) → List X
+listFrom k zero f = []
+listFrom k (suc n) f = f k ∷ listFrom (suc k) n f
+
+-- f 0, f 1, .. f (n - 1)
+abbrev pub listOf : {X : Type 0} → ℕ → (ℕ → X) → List X
+listOf n f = listFrom zero n f
+
+-- f 0 + f 1 + .. + f (n - 1)
+abbrev pub sumOf : ℕ → (ℕ → ℕ) → ℕ
+sumOf zero f = 0
+sumOf (suc n) f = sumOf n f + f n
+
+-- The lists one after the other.
+abbrev pub joined : {X : Type 0} → List (List X) → List X
+joined [] = []
+joined (l ∷ ls) = l ++ joined ls
+
+-- `new` written over the start of a lent buffer. Document 01, "When the tool says no": "longer buffers keep their tails".
+abbrev pub written : {X : Type 0} → List X → List X → List X
+written new lent = new ++ drop (length new) lent
+
+-- A list at the start of `size` places, zeros after it.
+abbrev pub padded : ℕ → List ℕ → List ℕ
+padded size l = l ++ replicate (size - length l) 0

@@ -1,0 +1,1 @@
+// Lists, tests and choices that every floor above uses: definitions and their laws, no code.

@@ -1,0 +1,87 @@
+-- The totals for any bytes, lent table, costs, floors and ceilings. Document 01, "Totals" and "When the tool says no" (rows 13 to 17).
+use Prim.Native.Nat.{ℕ, _+_, _*_}
+use mathlib.Core.Bool.{Bool, not, cond, _&&_, _||_}
+use mathlib.Core.List.{List, [], _∷_}
+use lib.ListN.{getD, length}
+use lib.Dec.{ltb, eqb}
+use Rattle.lists.specs.Choice.{Rule, _⇒_, firstRule, first}
+use Rattle.lists.specs.Lists.{sumOf}
+use Rattle.chart.specs.declared.refusals.Refusal.{Refusal}
+use Rattle.chart.specs.declared.refusals.Refusal.the-variants.{ShortBuffer, NotPassing, BoundsLength, Costs, FloorAboveCeiling, FloorAtUnmarked}
+use Rattle.chart.specs.Refusals.{Said, refusalSays}
+use Rattle.chart.specs.Chart.{Chart, Read, accepted, refused, readChart}
+use Rattle.cache.specs.Ages.{Ages}
+use Rattle.flow.specs.Flow.{Cell, blank, holds, cellAt}
+use Rattle.analysis.specs.AgesFlow.{columns, placesAt}
+use Rattle.analysis.specs.Class.{hit, miss, classesOf}
+use Rattle.analysis.specs.Lent.{Lent, tableOf, tableShort}
+use Rattle.checker.specs.Checker.{passes, marked}
+use Rattle.totals.specs.declared.Totals.{Totals}
+use Rattle.totals.specs.declared.Totals.the-variants.{Between, Refused}
+
+-- "The caller gives a hit cost and a miss cost, and a floor and a ceiling for each node"
+pub record Prices : Type 0 where
+  pub hitCost : ℕ
+  pub missCost : ℕ
+  pub floors : List ℕ
+  pub ceilings : List ℕ
+
+-- "ceiling times hit cost for class 1, else times miss cost"
+abbrev pub highRate : Prices → ℕ → ℕ
+highRate prices class = cond (eqb class hit) (prices .hitCost) (prices .missCost)
+
+-- "floor times miss cost for class 2, else times hit cost"
+abbrev pub lowRate : Prices → ℕ → ℕ
+lowRate prices class = cond (eqb class miss) (prices .missCost) (prices .hitCost)
+
+abbrev pub ratesOf : (ℕ → ℕ) → List ℕ → ℕ
+ratesOf rate [] = 0
+ratesOf rate (class ∷ classes) = rate class + ratesOf rate classes
+
+-- What one visit of a node counts, by the classes of its touches: nothing at an unmarked node or a bare step.
+abbrev pub visitCost : Chart → (ℕ → ℕ) → ℕ → Cell Ages → ℕ
+visitCost chart rate n blank = 0
+visitCost chart rate n (holds a) = ratesOf rate (classesOf (columns chart) (placesAt chart n) a)
+
+-- "adds, over marked references"
+unfoldable pub totalOf : Chart → Lent → (ℕ → ℕ) → List ℕ → ℕ
+totalOf chart lent rate times =
+    sumOf (chart .header .nodes) (λ n. getD times n 0 * visitCost chart rate n (cellAt (tableOf chart lent) n))
+
+abbrev pub highTotal : Chart → Lent → Prices → ℕ
+highTotal chart lent prices = totalOf chart lent (highRate prices) (prices .ceilings)
+
+abbrev pub lowTotal : Chart → Lent → Prices → ℕ
+lowTotal chart lent prices = totalOf chart lent (lowRate prices) (prices .floors)
+
+-- Rows 11 and 13 to 17.
+abbrev pub firstCrossed : Chart → Prices → ℕ
+firstCrossed chart prices =
+    first (chart .header .nodes) (λ n. ltb (getD (prices .ceilings) n 0) (getD (prices .floors) n 0))
+
+abbrev pub firstUnmarked : Chart → Lent → Prices → ℕ
+firstUnmarked chart lent prices =
+    first (chart .header .nodes) (λ n. not (marked lent n) && ltb 0 (getD (prices .floors) n 0))
+
+abbrev pub totalRules : Chart → Lent → Prices → List (Rule Refusal)
+totalRules chart lent prices =
+    (tableShort chart lent ⇒ ShortBuffer)
+    ∷ (not (passes chart lent) ⇒ NotPassing)
+    ∷ (not (eqb (length (prices .floors)) (chart .header .nodes) && eqb (length (prices .ceilings)) (chart .header .nodes)) ⇒ BoundsLength)
+    ∷ (ltb (prices .missCost) (prices .hitCost) ⇒ Costs)
+    ∷ (ltb (firstCrossed chart prices) (chart .header .nodes) ⇒ FloorAboveCeiling (firstCrossed chart prices))
+    ∷ (ltb (firstUnmarked chart lent prices) (chart .header .nodes) ⇒ FloorAtUnmarked (firstUnmarked chart lent prices))
+    ∷ []
+
+-- This paper's number and values for each answer.
+abbrev pub totalsSay : Totals → Said
+totalsSay (Between low high) = record { number = 0; place = 0; passes = 0; blocks = 0; low = low; high = high }
+totalsSay (Refused refusal) = refusalSays refusal
+
+abbrev pub totalRead : Lent → Prices → Read → Totals
+totalRead lent prices (accepted chart) =
+    firstRule Refused (totalRules chart lent prices) (Between (lowTotal chart lent prices) (highTotal chart lent prices))
+totalRead lent prices (refused refusal) = Refused refusal
+
+unfoldable pub totals : List ℕ → Lent → Prices → Totals
+totals bytes lent prices = totalRead lent prices (readChart bytes)

@@ -1,7 +1,7 @@
 -- The flow of a chart's ages: what the passes, the checker and the totals work on. Document 01, "Ages and equations".
 use Prim.Native.Nat.{ℕ, _+_, _*_}
 use mathlib.Core.Bool.{Bool, true, false}
-use mathlib.Core.List.{List, [], _∷_, map}
+use mathlib.Core.List.{List, map}
 use lib.ListN.{getD}
 use Rattle.chart.specs.declared.headers.Start.{Start}
 use Rattle.chart.specs.declared.headers.Start.the-variants.{Unknown, Empty}

@@ -1,11 +1,11 @@
 -- What the built-in analysis answers and what it leaves in each lent buffer, for any bytes, any allowance and any buffers.
 -- Document 01, "When the tool says no", from "The analysis uses 1 to 12" on.
 use Prim.Native.Nat.{ℕ, _*_}
-use mathlib.Core.Bool.{Bool, cond, _||_}
-use mathlib.Core.List.{List, [], _∷_, _++_}
-use lib.ListN.{getD, length, replicate}
+use mathlib.Core.Bool.{Bool, _||_}
+use mathlib.Core.List.{List, [], _∷_}
+use lib.ListN.{length, replicate}
 use lib.Dec.{ltb}
-use Rattle.lists.specs.Choice.{Rule, _⇒_, firstRule}
+use Rattle.lists.specs.Choice.{_⇒_, firstRule}
 use Rattle.lists.specs.Lists.{listOf, written}
 use Rattle.chart.specs.declared.refusals.Refusal.{Refusal}
 use Rattle.chart.specs.declared.refusals.Refusal.the-variants.{ShortBuffer, Unsettled}

@@ -1,10 +1,9 @@
 -- The classes. Document 01, "Ages and equations": "Class of a node, first that applies".
 use Prim.Native.Nat.{ℕ}
-use mathlib.Core.Bool.{cond}
 use mathlib.Core.List.{List, [], _∷_}
 use lib.ListN.{getD}
 use lib.Dec.{ltb, eqb}
-use Rattle.lists.specs.Choice.{Rule, _⇒_, firstRule}
+use Rattle.lists.specs.Choice.{_⇒_, firstRule}
 use Rattle.chart.specs.Chart.{Chart}
 use Rattle.cache.specs.Ages.{Columns, Ages, ageOf, touchAges}
 use Rattle.flow.specs.Flow.{Cell, blank, holds}

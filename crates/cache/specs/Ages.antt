@@ -1,7 +1,7 @@
 -- Must and may ages of one touch, their meeting and their start. Document 01, "Ages and equations".
 -- A row has an age for each of `count` columns; a column is a block, known by its set key and by its limit, the age of a block that
 -- is absent (document 01's A).
-use Prim.Native.Nat.{ℕ, zero, suc, _≤_, _<_, min, max}
+use Prim.Native.Nat.{ℕ, suc, _≤_, _<_, min, max}
 use mathlib.Core.Path.{_≡_}
 use mathlib.Core.Bool.{Bool, true, false, cond, _&&_}
 use mathlib.Core.List.{List, [], _∷_}

@@ -1,3 +1,6 @@
 pub mod Numbers
-pub mod Listings
+pub mod Search
+pub mod Insertion
+pub mod Shift
+pub mod Arrays
 pub mod Reader

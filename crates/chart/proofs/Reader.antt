@@ -26,7 +26,7 @@ use Rattle.chart.specs.Header.{headerOf, headerRules, headerRead}
 use Rattle.chart.specs.Layout.{wordAt}
 use Rattle.chart.specs.Record.{recordOf, touchesOf}
 use Rattle.chart.specs.Reading.{readingOf, Gathers}
-use Rattle.chart.proofs.Listings.{gather-more}
+use Rattle.chart.proofs.Arrays.{gather-more}
 
 -- ---- the blocks of all nodes, or the first node that brings one too many
 

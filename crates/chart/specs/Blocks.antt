@@ -1,6 +1,6 @@
 -- The blocks of a chart. Document 01, "What a chart carries": "The blocks of a chart are the distinct ones of its references,
 -- reachable or not, in ascending order."
-use Prim.Native.Nat.{ℕ, zero, suc, _+_, _≤_, _<_}
+use Prim.Native.Nat.{ℕ, zero, suc, _≤_, _<_}
 use mathlib.Core.Bool.{Bool, cond}
 use mathlib.Core.List.{List, [], _∷_}
 use mathlib.Core.Path.{_≡_}

@@ -1,8 +1,8 @@
 -- A chart whole, and refusals 1 to 10 of any bytes. Document 01, "What a chart carries" and "When the tool says no".
-use Prim.Native.Nat.{ℕ, suc, _+_}
-use mathlib.Core.Bool.{Bool, not, cond}
+use Prim.Native.Nat.{ℕ, _+_}
+use mathlib.Core.Bool.{Bool, not}
 use mathlib.Core.List.{List, [], _∷_, _++_}
-use lib.ListN.{getD, length}
+use lib.ListN.{length}
 use lib.Dec.{ltb}
 use Rattle.lists.specs.Choice.{Rule, _⇒_, firstRule, first}
 use Rattle.chart.specs.declared.shape.Geometry.{Geometry}
@@ -11,10 +11,10 @@ use Rattle.chart.specs.declared.records.Node.{Node}
 use Rattle.chart.specs.declared.refusals.Refusal.{Refusal}
 use Rattle.chart.specs.declared.refusals.Refusal.the-variants.{BrokenRecord, TooManyBlocks}
 use Rattle.chart.specs.Layout.{wordAt}
-use Rattle.chart.specs.Geometry.{mostBlocks, setOf}
+use Rattle.chart.specs.Geometry.{mostBlocks}
 use Rattle.chart.specs.Header.{headerOf, headerRules}
 use Rattle.chart.specs.Record.{recordKeeps, nodeOf, arrowsOf, touchesOf}
-use Rattle.chart.specs.Blocks.{gathered, overfull, placeIn}
+use Rattle.chart.specs.Blocks.{gathered, overfull}
 
 -- What the bytes of an accepted chart say.
 pub record Chart : Type 0 where

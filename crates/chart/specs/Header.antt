@@ -1,7 +1,7 @@
 -- The header: its fields, what is allowed in each, and refusals 1 to 8.
 -- Document 01, "What a chart carries" (the table of fields) and "When the tool says no" (rows 1 to 8).
 use Prim.Native.Nat.{ℕ, _+_, _*_}
-use mathlib.Core.Bool.{Bool, not, cond, _&&_}
+use mathlib.Core.Bool.{not, cond, _&&_}
 use mathlib.Core.List.{List, [], _∷_}
 use lib.ListN.{length}
 use lib.Dec.{ltb, leb, eqb}

@@ -13,7 +13,7 @@ use Rattle.chart.specs.declared.blocks.Gathered.{Gathered}
 use Rattle.chart.specs.declared.blocks.Gathered.the-variants.{Blocks, TooMany}
 use Rattle.chart.specs.Geometry.{mostBlocks}
 use Rattle.chart.specs.Blocks.{gathered}
-use Rattle.chart.specs.Chart.{Read, accepted, refused, Chart, readChart, touchesAt, firstOverfull}
+use Rattle.chart.specs.Chart.{Read, accepted, refused, readChart, touchesAt, firstOverfull}
 
 -- The header, the number of blocks and the blocks, zeros after them; after a refusal zeros only.
 unfoldable pub readingOf : Read → Reading

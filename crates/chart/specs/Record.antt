@@ -1,6 +1,6 @@
 -- A node's record: its fields, its rules, what it touches and where its arrows lead.
 -- Document 01, "What a chart carries", from "Then come N records of 64 bits" on.
-use Prim.Native.Nat.{ℕ, zero, suc, _+_}
+use Prim.Native.Nat.{ℕ}
 use mathlib.Core.Bool.{Bool, not, cond, _&&_, _||_}
 use mathlib.Core.List.{List, [], _∷_}
 use lib.Dec.{ltb, leb, eqb}

@@ -1,17 +1,15 @@
 -- What the checker answers for any bytes and any lent table. Document 01, "Ages and equations" ("It passes exactly if") as tests that
 -- can be run, and "When the tool says no" ("The checker uses 1 to 11 and answers yes or no").
-use Prim.Native.Nat.{ℕ, _+_, _*_}
+use Prim.Native.Nat.{ℕ}
 use mathlib.Core.Bool.{Bool, true, not, cond, _&&_, _||_}
 use mathlib.Core.List.{List, [], _∷_}
 use lib.ListN.{getD}
 use lib.Dec.{leb, eqb}
-use Rattle.lists.specs.Choice.{Rule, _⇒_, firstRule, every}
-use Rattle.chart.specs.declared.refusals.Refusal.{Refusal}
+use Rattle.lists.specs.Choice.{_⇒_, firstRule, every}
 use Rattle.chart.specs.declared.refusals.Refusal.the-variants.{ShortBuffer}
 use Rattle.chart.specs.Refusals.{Said, refusalSays}
 use Rattle.chart.specs.Chart.{Chart, Read, accepted, refused, readChart, arrows, blockCount}
 use Rattle.cache.specs.Ages.{Ages, ageOf}
-use Rattle.flow.specs.Flow.{Flow}
 use Rattle.analysis.specs.AgesFlow.{agesFlow, columns}
 use Rattle.analysis.specs.Lent.{Lent, agesAt, tableShort}
 use Rattle.checker.specs.declared.Checked.{Checked}

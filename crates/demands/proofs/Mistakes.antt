@@ -1,7 +1,6 @@
 -- Each mistake reads otherwise than the right analysis, and otherwise than document 01.
-use Prim.Native.Nat.{ℕ}
 use mathlib.Core.Path.{_≡_, refl}
-use mathlib.Core.List.{List, [], _∷_, map}
+use mathlib.Core.List.{[], _∷_, map}
 use Rattle.chart.specs.Layout.{wordAt}
 use Rattle.chart.specs.Geometry.{blockOf, setOf}
 use Rattle.chart.specs.Record.{recordOf, arrowsOf, touchesOf}

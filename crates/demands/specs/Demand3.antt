@@ -10,7 +10,7 @@ use Rattle.chart.specs.Blocks.{placeIn}
 use Rattle.chart.specs.Chart.{Chart, accepted, readChart, arrows, touches}
 use Rattle.cache.specs.Ages.{Ages, touchAges}
 use Rattle.cache.specs.Plain.{Cache}
-use Rattle.flow.specs.Walk.{Machine, Walk, lastOf, visitsOf, AtTouches, paid, arriving}
+use Rattle.flow.specs.Walk.{Walk, lastOf, visitsOf, AtTouches, paid, arriving}
 use Rattle.analysis.specs.AgesFlow.{columns}
 use Rattle.analysis.specs.Class.{hit, miss, classOf}
 use Rattle.analysis.specs.Lent.{Lent, agesAt}

@@ -1,7 +1,7 @@
 -- The five mistakes of document 01, "How my spreadsheet would fool you", each as an analysis that makes it, on a chart whose right
 -- classes are known. Each reads other classes than the right analysis.
 use Prim.Native.Nat.{ℕ, suc, _^_, _%_, min}
-use mathlib.Core.Bool.{Bool, true, false, cond}
+use mathlib.Core.Bool.{true, cond}
 use mathlib.Core.List.{List, [], _∷_}
 use lib.ListN.{getD, replicate}
 use lib.Dec.{eqb, ltb, leb}
@@ -16,7 +16,7 @@ use Rattle.flow.specs.Walk.{inTurn}
 use Rattle.analysis.specs.AgesFlow.{columns, placesAt, isEmpty, allPasses}
 use Rattle.analysis.specs.Class.{classesOf, none, unreached}
 use Rattle.demands.specs.Charts.{oneSetTwoWaysEmpty, oneSetTwoWays, twoSetsOneWay, straightChart, entryLoopChart}
-use Rattle.demands.specs.Soundings.{fourWays, row}
+use Rattle.demands.specs.Soundings.{row}
 
 abbrev pub chartIn : List ℕ → Chart
 chartIn bytes = chartOf bytes (headerOf (wordAt bytes 0))

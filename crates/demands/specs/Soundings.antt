@@ -2,7 +2,7 @@
 -- paper says.
 use Prim.Native.Nat.{ℕ}
 use mathlib.Core.List.{List, [], _∷_, _++_}
-use lib.ListN.{replicate, take}
+use lib.ListN.{replicate}
 use Rattle.chart.specs.Layout.{wordAt}
 use Rattle.chart.specs.Header.{headerOf}
 use Rattle.chart.specs.Chart.{Chart, chartOf, touches}

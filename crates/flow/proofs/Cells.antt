@@ -1,17 +1,16 @@
 -- Laws of one cell: placing a state into it, and the order and the steps of cells.
-use mathlib.Core.Path.{_≡_, refl, sym, ap, _∙_, subst}
-use mathlib.Core.Bool.{Bool, true, false, not, _||_, true≢false, false≢true}
-use mathlib.Core.List.{List, [], _∷_, _++_}
-use mathlib.Core.Logic.{_⊎_, inl, inr, _≢_}
-use Prim.Native.Nat.{ℕ, zero, suc, _+_, _*_, _≤_, _<_}
+use mathlib.Core.Path.{_≡_, sym, ap, subst}
+use mathlib.Core.Bool.{false, true≢false}
+use mathlib.Core.List.{[], _∷_}
+use Prim.Native.Nat.{ℕ, zero, suc, _<_}
 use native.Mathlib.Omega.{arith}
 use native.Mathlib.Decide.{ℕ-discrete}
 use borrow.Author.Tests.{not-false}
-use lib.ListN.{length, getD, set, replicate, length-set, length-replicate, getD-replicate}
-use lib.Seq.{getD-set-same, getD-set-other, set-getD}
-use Rattle.flow.specs.Flow.{Cell, blank, holds, cellAt, Among, Flow, Table}
-use Rattle.flow.specs.Passing.{CellBelow, CellOk, leaving, Under, Passing, Tightest}
-use Rattle.flow.specs.Pass.{Run, Outcome, settled, spent, met, changes, place, put, putAll, visitWith, visit, visits, pass, before, afterPasses, settleFrom, settle}
+use lib.ListN.{length, length-set}
+use lib.Seq.{getD-set-same, getD-set-other}
+use Rattle.flow.specs.Flow.{Cell, blank, holds, cellAt, Flow, Table}
+use Rattle.flow.specs.Passing.{CellBelow, CellOk, leaving}
+use Rattle.flow.specs.Pass.{met, changes, place}
 use Rattle.flow.specs.Laws.{Laws}
 
 module _ (F : Flow) where

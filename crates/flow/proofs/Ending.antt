@@ -1,18 +1,17 @@
 -- Passing end: with a height that grows with each change and is bounded, an allowance of nodes * (1 + bound) + 1 settles.
 -- And what the outcome of a settling says of the passes made.
 use mathlib.Core.Path.{_≡_, refl, sym, ap, _∙_, subst}
-use mathlib.Core.Bool.{Bool, true, false, not, _||_, true≢false, false≢true}
-use mathlib.Core.List.{List, [], _∷_, _++_}
-use mathlib.Core.Logic.{_⊎_, inl, inr, _≢_}
+use mathlib.Core.Bool.{Bool, true, false, not, true≢false, false≢true}
+use mathlib.Core.List.{List, [], _∷_}
+use mathlib.Core.Logic.{inl, inr}
 use Prim.Native.Nat.{ℕ, zero, suc, _+_, _*_, _≤_, _<_}
 use native.Mathlib.Omega.{arith}
 use native.Mathlib.Decide.{ℕ-discrete}
-use lib.ListN.{length, getD, set}
-use Rattle.flow.proofs.Cells.{real, met-still, place-length}
-use Rattle.flow.proofs.Settling.{Fair, Due, place-still, place-fair, due, put-on, putAll-on, visit-on, visits-on, pass-fair, pass-still, before-fair, after-fair}
+use lib.ListN.{length, set}
+use Rattle.flow.proofs.Cells.{real}
+use Rattle.flow.proofs.Settling.{Fair, Due, place-still, due, put-on, visits-on, pass-fair, before-fair}
 use Rattle.flow.specs.Flow.{Cell, blank, holds, cellAt, Among, Flow, Table}
-use Rattle.flow.specs.Passing.{CellBelow, CellOk, leaving, Under, Passing, Tightest}
-use Rattle.flow.specs.Pass.{Run, Outcome, settled, spent, met, changes, place, put, putAll, visitWith, visit, visits, pass, before, afterPasses, settleFrom, settle}
+use Rattle.flow.specs.Pass.{Run, settled, spent, met, changes, place, put, putAll, visitWith, visit, visits, pass, before, afterPasses, settleFrom, settle}
 use Rattle.flow.specs.Laws.{Laws}
 
 pub record Height (F : Flow) (L : Laws F) : Type 0 where

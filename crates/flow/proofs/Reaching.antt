@@ -1,5 +1,5 @@
 -- The settled table marks a node exactly if a walk reaches it.
-use mathlib.Core.Path.{_≡_, refl, sym, ap, _∙_, subst}
+use mathlib.Core.Path.{_≡_, refl, sym, subst}
 use mathlib.Core.List.{List, [], _∷_, _++_}
 use Prim.Native.Nat.{ℕ}
 use Rattle.flow.proofs.Cells.{real}
@@ -9,7 +9,7 @@ use Rattle.flow.specs.Flow.{Cell, blank, holds, cellAt, Among, Flow, Tab
 use Rattle.flow.specs.Passing.{CellBelow, leaving, Marked, Passing}
 use Rattle.flow.specs.Pass.{settled, settle, afterPasses}
 use Rattle.flow.specs.Laws.{Laws}
-use Rattle.flow.specs.Walk.{Onward, Walk, lastOf, Reached}
+use Rattle.flow.specs.Walk.{Onward, lastOf, Reached}
 
 module _ (F : Flow) where
   -- A walk reaches n, step by step.

@@ -1,16 +1,16 @@
 -- Every table that passes reach from the first is below every table that passes; a pass that changes nothing leaves a table that passes.
-use mathlib.Core.Path.{_≡_, refl, sym, ap, _∙_, subst}
-use mathlib.Core.Bool.{Bool, true, false, not, _||_, true≢false, false≢true}
-use mathlib.Core.List.{List, [], _∷_, _++_}
-use mathlib.Core.Logic.{_⊎_, inl, inr, _≢_}
-use Prim.Native.Nat.{ℕ, zero, suc, _+_, _*_, _≤_, _<_}
+use mathlib.Core.Path.{_≡_, refl, sym, _∙_, subst}
+use mathlib.Core.Bool.{Bool, true, false, _||_, true≢false}
+use mathlib.Core.List.{List, [], _∷_}
+use mathlib.Core.Logic.{inl, inr, _≢_}
+use Prim.Native.Nat.{ℕ, zero, suc, _<_}
 use native.Mathlib.Omega.{arith}
 use native.Mathlib.Decide.{ℕ-discrete}
-use lib.ListN.{length, getD, set, replicate, length-set, length-replicate, getD-replicate}
+use lib.ListN.{length, replicate, length-set, length-replicate}
 use lib.Seq.{getD-set-same, getD-set-other, set-getD}
 use Rattle.flow.specs.Flow.{Cell, blank, holds, cellAt, Among, Flow, Table}
-use Rattle.flow.specs.Passing.{CellBelow, CellOk, leaving, Under, Passing, Tightest}
-use Rattle.flow.specs.Pass.{Run, Outcome, settled, spent, met, changes, place, put, putAll, visitWith, visit, visits, pass, before, afterPasses, settleFrom, settle}
+use Rattle.flow.specs.Passing.{CellBelow, leaving, Under, Passing, Tightest}
+use Rattle.flow.specs.Pass.{Run, settled, changes, place, put, putAll, visitWith, visit, visits, pass, before, afterPasses, settleFrom, settle}
 use Rattle.flow.specs.Laws.{Laws}
 use Rattle.flow.proofs.Cells.{place-all, place-length, place-at, cell-in, real, cell-ok, cell-refl, cell-trans, met-left, met-right, met-least, met-real, met-still, leaving-monotone}
 

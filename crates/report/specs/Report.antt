@@ -1,12 +1,10 @@
 -- What the program prints for any input. Document 01, "A chart and its report, whole".
-use Prim.Native.Nat.{ℕ, zero, suc, _+_, _*_}
-use mathlib.Core.Bool.{cond}
+use Prim.Native.Nat.{ℕ, _+_, _*_}
 use mathlib.Core.List.{List, [], _∷_, _++_}
-use lib.ListN.{getD, length, replicate, take}
+use lib.ListN.{getD, replicate, take}
 use lib.Dec.{eqb}
-use Rattle.lists.specs.Choice.{Rule, _⇒_, firstRule}
+use Rattle.lists.specs.Choice.{_⇒_, firstRule}
 use Rattle.lists.specs.Lists.{listOf, joined}
-use Rattle.chart.specs.declared.refusals.Refusal.{Refusal}
 use Rattle.chart.specs.Geometry.{mostNodes, mostBlocks}
 use Rattle.chart.specs.Header.{nodeCount}
 use Rattle.chart.specs.Layout.{wordAt}

@@ -1,6 +1,6 @@
 -- The totals for any bytes, lent table, costs, floors and ceilings. Document 01, "Totals" and "When the tool says no" (rows 13 to 17).
 use Prim.Native.Nat.{ℕ, _+_, _*_}
-use mathlib.Core.Bool.{Bool, not, cond, _&&_, _||_}
+use mathlib.Core.Bool.{not, cond, _&&_}
 use mathlib.Core.List.{List, [], _∷_}
 use lib.ListN.{getD, length}
 use lib.Dec.{ltb, eqb}

@@ -8,7 +8,7 @@ use Rattle.lists.proofs.Choice.{first-begins, first-passes}
 use Rattle.chart.specs.Blocks.{gathered}
 use Rattle.chart.specs.Chart.{touchesAt}
 use Rattle.chart.specs.Geometry.{mostBlocks}
-use Rattle.chart.proofs.Listings.{gathered-none, gather-listing, gather-over, gather-within}
+use Rattle.chart.proofs.Arrays.{gathered-none, gather-listing, gather-over, gather-within}
 use Rattle.chart.proofs.Reader.{over, gather-turn, gathers-over, gathers-all}
 use Rattle.chart.proofs.blocks.gather.Statement.{statement}
 use Rattle.chart.proofs.blocks.gather.Tie as tie

@@ -2,7 +2,7 @@ use borrow.Author.Needs.{needs}
 use mathlib.Core.Path.{_≡_}
 use Prim.Native.Nat.{_-_, _≤_}
 use Rattle.lists.specs.Choice.{first, firstFrom}
-use Rattle.chart.proofs.Listings.{notBelow, place-begins, place-passes, place-found, place-ends}
+use Rattle.chart.proofs.Search.{notBelow, place-begins, place-passes, place-found, place-ends}
 use Rattle.chart.proofs.blocks.place_in.Statement.{statement}
 use Rattle.chart.proofs.blocks.place_in.Tie as tie
 

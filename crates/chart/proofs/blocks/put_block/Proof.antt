@@ -2,7 +2,7 @@ use borrow.Author.Needs.{needs}
 use mathlib.Core.Logic.{⊎-elim}
 use native.Mathlib.Omega.{arith}
 use Rattle.chart.specs.Geometry.{mostBlocks}
-use Rattle.chart.proofs.Listings.{listing-size, put-place, put-there, put-over, put-new}
+use Rattle.chart.proofs.Arrays.{listing-size, put-place, put-there, put-over, put-new}
 use Rattle.chart.proofs.blocks.put_block.Statement.{statement}
 use Rattle.chart.proofs.blocks.put_block.Tie as tie
 

@@ -1,6 +1,6 @@
 use borrow.Author.Needs.{needs}
 use Rattle.chart.specs.Geometry.{mostBlocks}
-use Rattle.chart.proofs.Listings.{put-none}
+use Rattle.chart.proofs.Arrays.{put-none}
 use Rattle.chart.specs.Record.{touchesOf}
 use Rattle.chart.proofs.blocks.put_record.Statement.{statement}
 use Rattle.chart.proofs.blocks.put_record.Tie as tie

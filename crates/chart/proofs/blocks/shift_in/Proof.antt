@@ -3,7 +3,7 @@ use mathlib.Core.Path.{_≡_, refl}
 use Prim.Native.Nat.{_+_, _-_, _≤_, _<_}
 use native.Mathlib.Omega.{arith}
 use lib.ListN.{length}
-use Rattle.chart.proofs.Listings.{shifted, carriedAt, shift-begins, shift-stores, shift-carries}
+use Rattle.chart.proofs.Shift.{shifted, carriedAt, shift-begins, shift-stores, shift-carries}
 use Rattle.chart.proofs.blocks.shift_in.Statement.{statement}
 use Rattle.chart.proofs.blocks.shift_in.Tie as tie
 

@@ -1,7 +1,6 @@
 -- The flow of a chart's ages: what the passes, the checker and the totals work on. Document 01, "Ages and equations".
 use Prim.Native.Nat.{ℕ, _+_, _*_}
 use mathlib.Core.Bool.{Bool, true, false}
-use mathlib.Core.List.{List, map}
 use lib.ListN.{getD}
 use Rattle.chart.specs.declared.headers.Start.{Start}
 use Rattle.chart.specs.declared.headers.Start.the-variants.{Unknown, Empty}
@@ -17,19 +16,24 @@ abbrev pub columns : Chart → Columns
 columns chart =
     record {
       count = blockCount chart;
-      key = λ place. setOf (chart .header .geometry) (getD (chart .blocks) place 0);
-      limit = λ place. chart .header .geometry .ways;
+      key = λ column. setOf (chart .header .geometry) (getD (chart .blocks) column 0);
+      limit = λ column. chart .header .geometry .ways;
     }
 
--- The touches of a node, as places in the block list.
-abbrev pub placesAt : Chart → ℕ → List ℕ
-placesAt chart n = map (placeIn (chart .blocks)) (touches chart n)
+-- The column of a block.
+abbrev pub columnOf : Chart → ℕ → ℕ
+columnOf chart block = placeIn (chart .blocks) block
+
+-- The ages after a touch of a block.
+abbrev pub touched : Chart → ℕ → Ages → Ages
+touched chart block a = touchAges (columns chart) (columnOf chart block) a
 
 abbrev pub isEmpty : Start → Bool
 isEmpty Unknown = false
 isEmpty Empty = true
 
--- The state after a node's record: its touches in turn; "Bare step: nothing changes."
+-- The state after a node's record: its touches in turn; "Bare step: nothing changes." "The entry also meets the start": before pass one
+-- it has the start, and what its arrows bring is met into that.
 abbrev pub agesFlow : Chart → Flow
 agesFlow chart =
     record {
@@ -38,7 +42,7 @@ agesFlow chart =
       entry = chart .header .entry;
       arrows = arrows chart;
       start = startAges (columns chart) (isEmpty (chart .header .start));
-      step = λ n a. inTurn (touchAges (columns chart)) (placesAt chart n) a;
+      step = λ n a. inTurn (touched chart) (touches chart n) a;
       meet = meetAges (columns chart);
       same = sameAges;
       Ok = Within (columns chart);

@@ -1,24 +1,24 @@
 -- What the built-in analysis answers and what it leaves in each lent buffer, for any bytes, any allowance and any buffers.
 -- Document 01, "When the tool says no", from "The analysis uses 1 to 12" on.
-use Prim.Native.Nat.{ℕ, _*_}
+use Prim.Native.Nat.{ℕ}
 use mathlib.Core.Bool.{Bool, _||_}
 use mathlib.Core.List.{List, [], _∷_}
 use lib.ListN.{length, replicate}
 use lib.Dec.{ltb}
 use Rattle.lists.specs.Choice.{_⇒_, firstRule}
-use Rattle.lists.specs.Lists.{listOf, written}
+use Rattle.lists.specs.Lists.{written}
 use Rattle.chart.specs.declared.refusals.Refusal.{Refusal}
 use Rattle.chart.specs.declared.refusals.Refusal.the-variants.{ShortBuffer, Unsettled}
 use Rattle.chart.specs.Refusals.{Said, refusalSays}
 use Rattle.chart.specs.Chart.{Chart, Read, accepted, refused, readChart, blockCount}
 use Rattle.cache.specs.Ages.{Ages}
-use Rattle.flow.specs.Flow.{Cell, cellAt}
+use Rattle.flow.specs.Flow.{Cell}
 use Rattle.flow.specs.Pass.{Outcome, settled, spent, settle}
 use Rattle.analysis.specs.declared.Analysed.{Analysed}
 use Rattle.analysis.specs.declared.Analysed.the-variants.{Settled, Refused}
 use Rattle.analysis.specs.AgesFlow.{agesFlow}
-use Rattle.analysis.specs.Class.{nodeClass}
-use Rattle.analysis.specs.Lent.{Lent, tableShort, lentOf}
+use Rattle.analysis.specs.Class.{tableClasses}
+use Rattle.analysis.specs.Lent.{Lent, agesUsed, marksUsed, tableShort, lentOf}
 
 -- The five buffers that the analysis writes to.
 pub record Buffers : Type 0 where
@@ -35,17 +35,21 @@ pub record Left : Type 0 where
 
 -- This paper's number and values for each answer.
 abbrev pub analysedSays : Analysed → Said
-analysedSays (Settled passes blocks) = record { number = 0; place = 0; passes = passes; blocks = blocks; low = 0; high = 0 }
+analysedSays (Settled passes blocks) = record { number = 0; place = 0; passes = passes; blocks = blocks; yes = 0; low = 0; high = 0 }
 analysedSays (Refused refusal) = refusalSays refusal
 
 abbrev pub tableIn : Buffers → Lent
 tableIn buffers = record { must = buffers .must; may = buffers .may; marks = buffers .marks }
 
+-- "N classes"
+abbrev pub classesUsed : Chart → ℕ
+classesUsed chart = chart .header .nodes
+
 -- "a lent buffer, floors and ceilings apart, shorter than used"
 abbrev pub buffersShort : Chart → Buffers → Bool
 buffersShort chart buffers =
     ltb (length (buffers .blocks)) (blockCount chart)
-    || (tableShort chart (tableIn buffers) || ltb (length (buffers .classes)) (chart .header .nodes))
+    || (tableShort chart (tableIn buffers) || ltb (length (buffers .classes)) (classesUsed chart))
 
 -- "It writes B block numbers, N·B must ages, N·B may ages (row after row), N marks, N classes; longer buffers keep their tails."
 abbrev pub fill : Chart → Lent → List ℕ → Buffers → Buffers
@@ -61,13 +65,17 @@ fill chart table classes buffers =
 abbrev pub zeroLent : Chart → Lent
 zeroLent chart =
     record {
-      must = replicate (chart .header .nodes * blockCount chart) 0;
-      may = replicate (chart .header .nodes * blockCount chart) 0;
-      marks = replicate (chart .header .nodes) 0;
+      must = replicate (agesUsed chart) 0;
+      may = replicate (agesUsed chart) 0;
+      marks = replicate (marksUsed chart) 0;
     }
 
-abbrev pub classesIn : Chart → List (Cell Ages) → List ℕ
-classesIn chart table = listOf (chart .header .nodes) (λ n. nodeClass chart n (cellAt table n))
+-- The buffers after an analysis that ended with this table, and after one that did not settle.
+abbrev pub filledBy : Chart → List (Cell Ages) → Buffers → Buffers
+filledBy chart table buffers = fill chart (lentOf chart table) (tableClasses chart table) buffers
+
+abbrev pub filledByZeros : Chart → Buffers → Buffers
+filledByZeros chart buffers = fill chart (zeroLent chart) (replicate (classesUsed chart) 0) buffers
 
 -- "An analysis that settles returns its pass count and B." "After 12 the block list is written, the other used parts are zero, and
 -- the pass count is the allowance."
@@ -75,12 +83,12 @@ unfoldable pub finish : Chart → ℕ → Buffers → Outcome Ages → Left
 finish chart allowance buffers (settled passes table) =
     record {
       answer = Settled passes (blockCount chart);
-      buffers = fill chart (lentOf chart table) (classesIn chart table) buffers;
+      buffers = filledBy chart table buffers;
     }
 finish chart allowance buffers spent =
     record {
       answer = Refused (Unsettled allowance (blockCount chart));
-      buffers = fill chart (zeroLent chart) (replicate (chart .header .nodes) 0) buffers;
+      buffers = filledByZeros chart buffers;
     }
 
 -- "After 1 to 11 nothing lent has changed."

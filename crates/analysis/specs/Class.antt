@@ -4,10 +4,11 @@ use mathlib.Core.List.{List, [], _∷_}
 use lib.ListN.{getD}
 use lib.Dec.{ltb, eqb}
 use Rattle.lists.specs.Choice.{_⇒_, firstRule}
-use Rattle.chart.specs.Chart.{Chart}
-use Rattle.cache.specs.Ages.{Columns, Ages, ageOf, touchAges}
-use Rattle.flow.specs.Flow.{Cell, blank, holds}
-use Rattle.analysis.specs.AgesFlow.{columns, placesAt}
+use Rattle.lists.specs.Lists.{listOf}
+use Rattle.chart.specs.Chart.{Chart, touches}
+use Rattle.cache.specs.Ages.{Ages, ageOf}
+use Rattle.flow.specs.Flow.{Cell, blank, holds, cellAt}
+use Rattle.analysis.specs.AgesFlow.{columns, columnOf, touched}
 
 abbrev pub unreached : ℕ
 unreached = 0
@@ -25,18 +26,24 @@ abbrev pub none : ℕ
 none = 4
 
 -- The class of one touch, read from the state just before it: "1 hit (must age below A), 2 miss (may age is A), 3 unsure".
-unfoldable pub classOf : Columns → ℕ → Ages → ℕ
-classOf columns m a =
+unfoldable pub classOf : Chart → ℕ → Ages → ℕ
+classOf chart block a =
     firstRule (λ class. class)
-    ((ltb (ageOf (a .must) m) (columns .limit m) ⇒ hit) ∷ (eqb (ageOf (a .may) m) (columns .limit m) ⇒ miss) ∷ [])
+    ((ltb (ageOf (a .must) (columnOf chart block)) (columns chart .limit (columnOf chart block)) ⇒ hit)
+    ∷ (eqb (ageOf (a .may) (columnOf chart block)) (columns chart .limit (columnOf chart block)) ⇒ miss)
+    ∷ [])
     unsure
 
 -- The classes of touches in turn.
-abbrev pub classesOf : Columns → List ℕ → Ages → List ℕ
-classesOf columns [] a = []
-classesOf columns (m ∷ ms) a = classOf columns m a ∷ classesOf columns ms (touchAges columns m a)
+abbrev pub classesOf : Chart → List ℕ → Ages → List ℕ
+classesOf chart [] a = []
+classesOf chart (block ∷ blocks) a = classOf chart block a ∷ classesOf chart blocks (touched chart block a)
 
 -- The class of a node: "0 unreached (unmarked), 4 none (bare step)", else that of its touch.
 abbrev pub nodeClass : Chart → ℕ → Cell Ages → ℕ
 nodeClass chart n blank = unreached
-nodeClass chart n (holds a) = getD (classesOf (columns chart) (placesAt chart n) a) 0 none
+nodeClass chart n (holds a) = getD (classesOf chart (touches chart n) a) 0 none
+
+-- The class of each node.
+abbrev pub tableClasses : Chart → List (Cell Ages) → List ℕ
+tableClasses chart table = listOf (chart .header .nodes) (λ n. nodeClass chart n (cellAt table n))

@@ -20,6 +20,13 @@ pub record Lent : Type 0 where
   pub may : List ℕ
   pub marks : List ℕ
 
+-- How much of the buffers is used: "N·B must ages, N·B may ages (row after row), N marks".
+abbrev pub agesUsed : Chart → ℕ
+agesUsed chart = chart .header .nodes * blockCount chart
+
+abbrev pub marksUsed : Chart → ℕ
+marksUsed chart = chart .header .nodes
+
 -- Row n of a buffer of rows of B ages.
 abbrev pub rowAt : ℕ → List ℕ → ℕ → List ℕ
 rowAt count buffer n = listOf count (λ block. getD buffer (n * count + block) 0)
@@ -33,8 +40,12 @@ abbrev pub tableOf : Chart → Lent → List (Cell Ages)
 tableOf chart lent =
     listOf (chart .header .nodes) (λ n. cond (eqb (getD (lent .marks) n 0) 0) blank (holds (agesAt chart lent n)))
 
--- "It passes exactly if": the marks and the rows of unmarked nodes, and the equations of the table.
+-- "It passes exactly if": there are as many marks and ages as are used, the marks and the rows of unmarked nodes, and the equations.
 pub record TablePasses (chart : Chart) (lent : Lent) : Type 0 where
+  -- "a mark .. for each node, and two ages for each node and block"
+  pub must-long : agesUsed chart ≤ length (lent .must)
+  pub may-long : agesUsed chart ≤ length (lent .may)
+  pub marks-long : marksUsed chart ≤ length (lent .marks)
   -- "marks are 0 or 1"
   pub marks-plain : (n : ℕ) → n < chart .header .nodes → getD (lent .marks) n 0 ≤ 1
   -- "the rows of unmarked nodes are all 0"
@@ -45,9 +56,8 @@ pub record TablePasses (chart : Chart) (lent : Lent) : Type 0 where
 -- Whether a lent table is "shorter than used".
 abbrev pub tableShort : Chart → Lent → Bool
 tableShort chart lent =
-    ltb (length (lent .must)) (chart .header .nodes * blockCount chart)
-    || (ltb (length (lent .may)) (chart .header .nodes * blockCount chart)
-    || ltb (length (lent .marks)) (chart .header .nodes))
+    ltb (length (lent .must)) (agesUsed chart)
+    || (ltb (length (lent .may)) (agesUsed chart) || ltb (length (lent .marks)) (marksUsed chart))
 
 -- ---- a table as it is written
 

@@ -1,5 +1,5 @@
--- The plain cache. Document 01, "The plain cache". Everything here speaks of a block's set key and of a number of ways,
--- never of L, S or A.
+-- The plain cache. Document 01, "The plain cache". It speaks of a block's set key and of the ways of the set with that key, never of
+-- L, S or A.
 use Prim.Native.Nat.{ℕ, zero, suc, _≤_}
 use mathlib.Core.Path.{_≡_}
 use mathlib.Core.Bool.{Bool, true, false, cond}
@@ -38,11 +38,12 @@ unfoldable pub hits : (ℕ → ℕ) → ℕ → Cache → Bool
 hits key block cache = has block (cache (key block))
 
 -- "Other sets do not change."
-unfoldable pub touch : ℕ → (ℕ → ℕ) → ℕ → Cache → Cache
-touch ways key block cache set = cond (eqb set (key block)) (touchSet ways block (cache set)) (cache set)
+unfoldable pub touch : (ℕ → ℕ) → (ℕ → ℕ) → ℕ → Cache → Cache
+touch ways key block cache set = cond (eqb set (key block)) (touchSet (ways set) block (cache set)) (cache set)
 
-unfoldable pub age : ℕ → (ℕ → ℕ) → Cache → ℕ → ℕ
-age ways key cache block = ageIn ways (cache (key block)) block
+-- A block's age in the whole cache: that in its set.
+unfoldable pub age : (ℕ → ℕ) → (ℕ → ℕ) → Cache → ℕ → ℕ
+age ways key cache block = ageIn (ways (key block)) (cache (key block)) block
 
 -- ---- what a walk may begin with
 
@@ -60,8 +61,8 @@ AllOf key set (x ∷ l) = (key x ≡ set) × AllOf key set l
 
 -- "Each set is a list of at most A different blocks of that set." "Start "unknown" means any lists of this form, also of blocks not
 -- in the chart."
-pub record Formed (ways : ℕ) (key : ℕ → ℕ) (cache : Cache) : Type 0 where
-  pub short : (set : ℕ) → length (cache set) ≤ ways
+pub record Formed (ways key : ℕ → ℕ) (cache : Cache) : Type 0 where
+  pub short : (set : ℕ) → length (cache set) ≤ ways set
   pub different : (set : ℕ) → Different (cache set)
   pub own : (set : ℕ) → AllOf key set (cache set)
 

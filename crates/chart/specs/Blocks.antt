@@ -23,7 +23,7 @@ unfoldable pub gathered : (ℕ → List ℕ) → ℕ → List ℕ
 gathered touches zero = []
 gathered touches (suc n) = insertAll (touches n) (gathered touches n)
 
--- Whether node n, in node order, brings a block beyond `most`.
+-- Whether nodes 0 to n bring more than `most` blocks: the first such n brings the one too many.
 unfoldable pub overfull : ℕ → (ℕ → List ℕ) → ℕ → Bool
 overfull most touches n = ltb most (length (gathered touches (suc n)))
 

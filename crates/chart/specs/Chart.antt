@@ -1,16 +1,18 @@
 -- A chart whole, and refusals 1 to 10 of any bytes. Document 01, "What a chart carries" and "When the tool says no".
 use Prim.Native.Nat.{ℕ, _+_}
-use mathlib.Core.Bool.{Bool, not}
+use mathlib.Core.Bool.{Bool, not, cond}
 use mathlib.Core.List.{List, [], _∷_, _++_}
 use lib.ListN.{length}
-use lib.Dec.{ltb}
+use lib.Dec.{ltb, leb}
 use Rattle.lists.specs.Choice.{Rule, _⇒_, firstRule, first}
 use Rattle.chart.specs.declared.shape.Geometry.{Geometry}
 use Rattle.chart.specs.declared.headers.Header.{Header}
 use Rattle.chart.specs.declared.records.Node.{Node}
+use Rattle.chart.specs.declared.records.NodeRead.{NodeRead}
+use Rattle.chart.specs.declared.records.NodeRead.the-variants.{Found, Missing}
 use Rattle.chart.specs.declared.refusals.Refusal.{Refusal}
 use Rattle.chart.specs.declared.refusals.Refusal.the-variants.{BrokenRecord, TooManyBlocks}
-use Rattle.chart.specs.Layout.{wordAt}
+use Rattle.chart.specs.Layout.{wordAt, recordWord, chartLength}
 use Rattle.chart.specs.Geometry.{mostBlocks}
 use Rattle.chart.specs.Header.{headerOf, headerRules}
 use Rattle.chart.specs.Record.{recordKeeps, nodeOf, arrowsOf, touchesOf}
@@ -22,9 +24,12 @@ pub record Chart : Type 0 where
   pub node : ℕ → Node
   pub blocks : List ℕ
 
--- The record of node n is word n + 1.
 abbrev pub nodeAt : List ℕ → ℕ → Node
-nodeAt bytes n = nodeOf (wordAt bytes (n + 1))
+nodeAt bytes n = nodeOf (recordWord bytes n)
+
+-- What reading the record of node n of any bytes answers: the node, where the record is there whole.
+unfoldable pub nodeRead : List ℕ → ℕ → NodeRead
+nodeRead bytes n = cond (leb (chartLength (n + 1)) (length bytes)) (Found (nodeAt bytes n)) Missing
 
 -- The blocks that node n touches.
 abbrev pub touchesAt : Geometry → List ℕ → ℕ → List ℕ
@@ -40,7 +45,7 @@ chartOf bytes header =
 
 -- Rows 9 and 10, each with "first such node" and "node bringing the 65th, in node order".
 abbrev pub brokenAt : List ℕ → ℕ → ℕ → Bool
-brokenAt bytes nodes n = not (recordKeeps nodes (wordAt bytes (n + 1)))
+brokenAt bytes nodes n = not (recordKeeps nodes (recordWord bytes n))
 
 unfoldable pub firstBroken : List ℕ → ℕ → ℕ
 firstBroken bytes nodes = first nodes (brokenAt bytes nodes)
@@ -66,7 +71,7 @@ pub data Read : Type 0 where
 unfoldable pub readChart : List ℕ → Read
 readChart bytes = firstRule refused (chartRules bytes) (accepted (chartOf bytes (headerOf (wordAt bytes 0))))
 
--- Of an accepted chart: its nodes' arrows, and the touches of each node as places in the block list.
+-- Of an accepted chart: where a node's arrows lead, and the blocks that it touches, in turn.
 abbrev pub arrows : Chart → ℕ → List ℕ
 arrows chart n = arrowsOf (chart .node n)
 

@@ -25,6 +25,6 @@ setOf geometry block = block % 2 ^ geometry .sets
 abbrev pub between : ℕ → ℕ → ℕ → Bool
 between least most n = leb least n && leb n most
 
--- "L: 2 to 8", "S: 0 to 8", "A: 1 to 8"
+-- The table's "allowed": L from 2 to 8, S from 0 to 8, A from 1 to 8.
 unfoldable pub shapeAllowed : Geometry → Bool
 shapeAllowed geometry = between 2 8 (geometry .line) && (between 0 8 (geometry .sets) && between 1 mostWays (geometry .ways))

@@ -1,6 +1,6 @@
 -- The header: its fields, what is allowed in each, and refusals 1 to 8.
 -- Document 01, "What a chart carries" (the table of fields) and "When the tool says no" (rows 1 to 8).
-use Prim.Native.Nat.{ℕ, _+_, _*_}
+use Prim.Native.Nat.{ℕ}
 use mathlib.Core.Bool.{not, cond, _&&_}
 use mathlib.Core.List.{List, [], _∷_}
 use lib.ListN.{length}
@@ -14,7 +14,8 @@ use Rattle.chart.specs.declared.headers.HeaderRead.{HeaderRead}
 use Rattle.chart.specs.declared.headers.HeaderRead.the-variants.{Accepted, Refused}
 use Rattle.chart.specs.declared.refusals.Refusal.{Refusal}
 use Rattle.chart.specs.declared.refusals.Refusal.the-variants.{TooShort, Edition, Shape, StartCode, NodeCount, EntryNode, SpareBits, Length}
-use Rattle.chart.specs.Layout.{wordAt, field, headerWidths}
+use Rattle.chart.specs.Refusals.{Said, refusalSays}
+use Rattle.chart.specs.Layout.{wordAt, chartLength, field, headerWidths}
 use Rattle.chart.specs.Geometry.{mostNodes, between, shapeAllowed}
 
 -- The fields of the header's word, in the table's order.
@@ -62,7 +63,7 @@ wordRules word size =
     ∷ (not (between 1 mostNodes (nodeCount word)) ⇒ NodeCount)
     ∷ (leb (nodeCount word) (entryNode word) ⇒ EntryNode)
     ∷ (not (eqb (firstSpare word) 0 && eqb (secondSpare word) 0) ⇒ SpareBits)
-    ∷ (not (eqb size (8 + 8 * nodeCount word)) ⇒ Length)
+    ∷ (not (eqb size (chartLength (nodeCount word))) ⇒ Length)
     ∷ []
 
 -- Rows 1 to 8.
@@ -72,3 +73,8 @@ headerRules bytes = (ltb (length bytes) 8 ⇒ TooShort) ∷ wordRules (wordAt by
 -- What reading the header of any bytes answers.
 unfoldable pub headerRead : List ℕ → HeaderRead
 headerRead bytes = firstRule Refused (headerRules bytes) (Accepted (headerOf (wordAt bytes 0)))
+
+-- This paper's number and values for each answer.
+abbrev pub headerSays : HeaderRead → Said
+headerSays (Accepted header) = record { number = 0; place = 0; passes = 0; blocks = 0; yes = 0; low = 0; high = 0 }
+headerSays (Refused refusal) = refusalSays refusal

@@ -10,9 +10,17 @@ abbrev pub numberAt : List ℕ → ℕ → ℕ → ℕ
 numberAt bytes place zero = 0
 numberAt bytes place (suc n) = numberAt bytes place n * 256 + getD bytes (place + n) 0
 
--- Word n: the header is word 0, and the record of node n word n + 1.
+-- Word n of a chart. The header is word 0.
 unfoldable pub wordAt : List ℕ → ℕ → ℕ
 wordAt bytes n = numberAt bytes (8 * n) 8
+
+-- "Then come N records": the record of node n is word n + 1.
+abbrev pub recordWord : List ℕ → ℕ → ℕ
+recordWord bytes n = wordAt bytes (n + 1)
+
+-- "The chart's length is exactly 8 + 8N bytes."
+abbrev pub chartLength : ℕ → ℕ
+chartLength nodes = 8 + 8 * nodes
 
 abbrev pub total : List ℕ → ℕ
 total [] = 0

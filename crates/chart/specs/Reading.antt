@@ -6,6 +6,7 @@ use Prim.Native.Nat.{ℕ}
 use lib.ListN.{length, replicate}
 use Rattle.lists.specs.Lists.{padded}
 use Rattle.chart.specs.declared.readings.Reading.{Reading}
+use Rattle.chart.specs.declared.readings.Verdict.{Verdict}
 use Rattle.chart.specs.declared.readings.Verdict.the-variants.{Accepted, Refused}
 use lib.Dec.{ltb}
 use Rattle.chart.specs.declared.shape.Geometry.{Geometry}
@@ -13,6 +14,7 @@ use Rattle.chart.specs.declared.blocks.Gathered.{Gathered}
 use Rattle.chart.specs.declared.blocks.Gathered.the-variants.{Blocks, TooMany}
 use Rattle.chart.specs.Geometry.{mostBlocks}
 use Rattle.chart.specs.Blocks.{gathered}
+use Rattle.chart.specs.Refusals.{Said, refusalSays}
 use Rattle.chart.specs.Chart.{Read, accepted, refused, readChart, touchesAt, firstOverfull}
 
 -- The header, the number of blocks and the blocks, zeros after them; after a refusal zeros only.
@@ -23,6 +25,11 @@ readingOf (accepted chart) =
       blocks = padded mostBlocks (chart .blocks);
     }
 readingOf (refused refusal) = record { verdict = Refused refusal; blocks = replicate mostBlocks 0 }
+
+-- This paper's number and values for each answer.
+abbrev pub verdictSays : Verdict → Said
+verdictSays (Accepted header blocks) = record { number = 0; place = 0; passes = 0; blocks = blocks; yes = 0; low = 0; high = 0 }
+verdictSays (Refused refusal) = refusalSays refusal
 
 abbrev pub reading : List ℕ → Reading
 reading bytes = readingOf (readChart bytes)

@@ -65,7 +65,7 @@ arrowsOf node =
     cond (eqb (node .outs) 0) [] (cond (eqb (node .outs) 1) (node .first ∷ []) (node .first ∷ node .second ∷ []))
 
 -- The blocks that a record touches, in turn: none for a bare step, for a reference the block that holds its address.
--- "A write is treated as a read."
+-- A write touches as a read does: "A write is treated as a read, as in a write-through cache that allocates".
 unfoldable pub touchesOf : Geometry → Record → List ℕ
 touchesOf geometry Step = []
 touchesOf geometry (Reference reference) = blockOf geometry (reference .address) ∷ []

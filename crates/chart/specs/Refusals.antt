@@ -42,12 +42,14 @@ placeOf Costs = 0
 placeOf (FloorAboveCeiling node) = node
 placeOf (FloorAtUnmarked node) = node
 
--- What an answer says, in the paper's numbers: 0 for "no refusal" and for every value that the answer does not have.
+-- What an answer says, in the paper's numbers. An answer that is no refusal has number 0, and a value that an answer does not have is 0.
 pub record Said : Type 0 where
   pub number : ℕ
   pub place : ℕ
   pub passes : ℕ
   pub blocks : ℕ
+  -- the checker's answer: yes is 1, no is 0
+  pub yes : ℕ
   pub low : ℕ
   pub high : ℕ
 
@@ -55,7 +57,7 @@ pub record Said : Type 0 where
 -- save that 12 also returns the allowance and B."
 abbrev pub refusalWith : ℕ → ℕ → Refusal → Said
 refusalWith passes blocks refusal =
-    record { number = numberOf refusal; place = placeOf refusal; passes = passes; blocks = blocks; low = 0; high = 0 }
+    record { number = numberOf refusal; place = placeOf refusal; passes = passes; blocks = blocks; yes = 0; low = 0; high = 0 }
 
 abbrev pub refusalSays : Refusal → Said
 refusalSays TooShort = refusalWith 0 0 TooShort

@@ -6,6 +6,7 @@ ghost use lib.ListN.{length, take, drop};
 ghost use lib.Seq.{paste};
 ghost use Rattle.lists.specs.Lists.{padded};
 ghost use Rattle.chart.specs.Geometry.{mostBlocks};
+ghost use Rattle.chart.specs.Layout.{chartLength};
 ghost use Rattle.chart.specs.Record.{touchesOf};
 ghost use Rattle.chart.specs.Blocks.{Ascending, placeIn, insert, insertAll, Listing, Laid};
 ghost use Rattle.chart.specs.Reading.{Gathers};
@@ -50,8 +51,8 @@ fn shift_in(blocks: &mut [u32], place: usize, count: usize, block: u32)
     }
 }
 
-// Puts a block into the first `count`, where it is not there yet, and answers how many there are then. Where that is too many for
-// the array, the array stays as it is.
+// Puts a block into the first `count`, where it is not there yet, and answers how many there are then: what the array holds where
+// that is too many for it is not said.
 fn put_block(blocks: &mut [u32], count: usize, block: u32) -> usize
     requires { ⌜ Listing mostBlocks count (now blocks) ⌝ }
     ensures { λ r. ⌜ Laid mostBlocks (insert block (take count (now (blocks .entry)))) r (now (blocks .exit)) ⌝ }
@@ -80,9 +81,9 @@ fn put_record(blocks: &mut [u32], count: usize, geometry: Geometry, what: Record
     put_block(blocks, count, geometry.block_of(reference.address))
 }
 
-// Gathers the blocks of all nodes into an array of zeros.
+// Gathers the blocks of all nodes into an array of zeros: what it holds after `TooMany` is not said.
 pub fn gather(chart: &[u8], geometry: Geometry, nodes: usize, blocks: &mut [u32]) -> Gathered
-    requires { ⌜ 8 + 8 * nodes ≤ length (now chart) ⌝ }
+    requires { ⌜ chartLength nodes ≤ length (now chart) ⌝ }
     requires { ⌜ now blocks ≡ padded mostBlocks [] ⌝ }
     ensures { λ r. ⌜ Gathers (now (chart .entry)) geometry nodes r (now (blocks .exit)) ⌝ }
 {

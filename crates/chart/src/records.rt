@@ -2,8 +2,9 @@
 ghost use mathlib.Core.Path.{_≡_};
 ghost use Prim.Native.Nat.{_+_, _*_, _≤_};
 ghost use lib.ListN.{length};
+ghost use Rattle.chart.specs.Layout.{chartLength};
 ghost use Rattle.chart.specs.Record.{arrowKeeps, recordKeeps, recordOf, nodeOf};
-ghost use Rattle.chart.specs.Chart.{firstBroken};
+ghost use Rattle.chart.specs.Chart.{nodeRead, firstBroken};
 use crate::words::bits;
 use crate::words::word_at;
 
@@ -22,6 +23,12 @@ pub struct Node {
     pub outs: usize,
     pub first: usize,
     pub second: usize,
+}
+
+// A node, or that the bytes end before its record does.
+pub enum NodeRead {
+    Found(Node),
+    Missing,
 }
 
 // What the record in a word does.
@@ -50,6 +57,20 @@ pub fn node_of(word: u64) -> Node
     }
 }
 
+// The node whose record is number n of any bytes, whether or not it keeps its rules.
+pub fn read_node(chart: &[u8], n: usize) -> NodeRead
+    ensures { λ r. ⌜ r ≡ nodeRead (now (chart .entry)) n ⌝ }
+{
+    let words = chart.len() / 8;
+    if words < 2 {
+        return NodeRead::Missing;
+    }
+    if words - 1 <= n {
+        return NodeRead::Missing;
+    }
+    NodeRead::Found(node_of(word_at(chart, n + 1)))
+}
+
 // Whether an arrow that is used leads below `nodes`, and one that is not is 0.
 fn arrow_keeps(nodes: usize, used: bool, target: usize) -> bool
     ensures { λ r. ⌜ r ≡ arrowKeeps nodes used target ⌝ }
@@ -72,7 +93,7 @@ fn record_keeps(nodes: usize, word: u64) -> bool
 
 // The first node whose record breaks its rules, or `nodes`.
 pub fn first_broken(chart: &[u8], nodes: usize) -> usize
-    requires { ⌜ 8 + 8 * nodes ≤ length (now chart) ⌝ }
+    requires { ⌜ chartLength nodes ≤ length (now chart) ⌝ }
     ensures { λ r. ⌜ r ≡ firstBroken (now (chart .entry)) nodes ⌝ }
 {
     for n in 0..nodes {

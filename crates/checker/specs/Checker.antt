@@ -66,15 +66,10 @@ module _ (chart : Chart) (lent : Lent) where
   unfoldable pub passes : Bool
   passes = marksPlain && (agesFit && (unmarkedZero && (entryAllows && arrowsAllow)))
 
--- This paper's number and values for each answer; and yes as 1, no as 0.
-abbrev pub yesOf : Checked → ℕ
-yesOf Passes = 1
-yesOf Fails = 0
-yesOf (Refused refusal) = 0
-
+-- This paper's number and values for each answer.
 abbrev pub checkedSays : Checked → Said
-checkedSays Passes = record { number = 0; place = 0; passes = 0; blocks = 0; low = 0; high = 0 }
-checkedSays Fails = record { number = 0; place = 0; passes = 0; blocks = 0; low = 0; high = 0 }
+checkedSays Passes = record { number = 0; place = 0; passes = 0; blocks = 0; yes = 1; low = 0; high = 0 }
+checkedSays Fails = record { number = 0; place = 0; passes = 0; blocks = 0; yes = 0; low = 0; high = 0 }
 checkedSays (Refused refusal) = refusalSays refusal
 
 abbrev pub checkRead : Lent → Read → Checked

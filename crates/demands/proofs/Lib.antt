@@ -1,2 +1,1 @@
 pub mod Soundings
-pub mod Mistakes

@@ -1,4 +1,4 @@
--- The charts of document 01's soundings, byte by byte. A read of address a with its arrows is 40 00 00 a/4 .. while a is below 400.
+-- The charts of document 01's soundings, byte by byte. A read of an address a that is a multiple of 4 and below 0x400 begins 40 00 00 a/4.
 use Prim.Native.Nat.{ℕ}
 use mathlib.Core.List.{List, [], _∷_, _++_}
 

@@ -1,7 +1,7 @@
 -- Demand 1: "Any bytes and any buffer lengths get an answer or a numbered refusal. What a refusal returns and leaves behind, and when
 -- each is given, is written down."
--- The definitions answer for every input whatever; here is what follows of every refusal.
-use Prim.Native.Nat.{ℕ, _*_, _≤_, _<_}
+-- The definitions answer for every input whatever; this is what they say of each refusal, of all the functions.
+use Prim.Native.Nat.{ℕ, _≤_, _<_}
 use mathlib.Core.Path.{_≡_}
 use mathlib.Core.Bool.{true, false}
 use mathlib.Core.List.{List, [], _∷_}
@@ -9,21 +9,32 @@ use mathlib.Core.Logic.{_⊎_}
 use lib.ListN.{length, take}
 use Rattle.lists.specs.Choice.{Rule, _⇒_}
 use Rattle.chart.specs.declared.refusals.Refusal.{Refusal}
+use Rattle.chart.specs.declared.refusals.Refusal.the-variants.{ShortBuffer, Unsettled}
+use Rattle.chart.specs.Geometry.{mostBlocks}
 use Rattle.chart.specs.Chart.{Chart, accepted, refused, readChart, chartRules, blockCount}
-use Rattle.chart.specs.Refusals.{Said}
+use Rattle.chart.specs.Refusals.{numberOf, refusalWith, refusalSays}
 use Rattle.flow.specs.Pass.{pass, afterPasses}
 use Rattle.analysis.specs.AgesFlow.{agesFlow}
-use Rattle.analysis.specs.Lent.{Lent, tableShort}
-use Rattle.analysis.specs.Analysis.{Buffers, buffersShort, analysed, analysedSays}
+use Rattle.analysis.specs.Lent.{Lent, agesUsed, marksUsed, tableShort}
+use Rattle.analysis.specs.Analysis.{Buffers, buffersShort, filledByZeros, refuse, analysed, analysedSays}
+use Rattle.analysis.specs.declared.Analysed.the-variants.{Settled}
+use Rattle.analysis.specs.declared.Analysed.the-variants.{Refused as AnalysisRefused}
+use Rattle.checker.specs.declared.Checked.the-variants.{Passes, Fails}
+use Rattle.checker.specs.declared.Checked.the-variants.{Refused as CheckerRefused}
 use Rattle.checker.specs.Checker.{checked, checkedSays}
-use Rattle.totals.specs.declared.Totals.the-variants.{Refused}
-use Rattle.totals.specs.Totals.{Prices, totalRules, totals, totalsSay}
+use Rattle.totals.specs.declared.Totals.the-variants.{Between}
+use Rattle.totals.specs.declared.Totals.the-variants.{Refused as TotalsRefused}
+use Rattle.totals.specs.Totals.{Prices, totalRules, lowTotal, highTotal, totals, totalsSay}
 
 -- A rule of the list applies, and none before it.
 abbrev pub FirstApplies : List (Rule Refusal) → Refusal → Type 0
 FirstApplies [] refusal = ⊥
 FirstApplies ((test ⇒ answer) ∷ rules) refusal =
     ((test ≡ true) × (answer ≡ refusal)) ⊎ ((test ≡ false) × FirstApplies rules refusal)
+
+abbrev pub NoneApplies : List (Rule Refusal) → Type 0
+NoneApplies [] = Unit {0}
+NoneApplies ((test ⇒ answer) ∷ rules) = (test ≡ false) × NoneApplies rules
 
 -- Each of so many passes changes something.
 abbrev pub AllChange : Chart → ℕ → Type 0
@@ -37,40 +48,55 @@ pub record SameLengths (lent left : Buffers) : Type 0 where
   pub marks : length (left .marks) ≡ length (lent .marks)
   pub classes : length (left .classes) ≡ length (lent .classes)
 
--- Two lent tables whose used parts are the same: the rest of either is not read.
+-- Two lent tables whose used parts are there and are the same.
 pub record SameUsed (chart : Chart) (one other : Lent) : Type 0 where
-  pub must : take (chart .header .nodes * blockCount chart) (one .must) ≡ take (chart .header .nodes * blockCount chart) (other .must)
-  pub may : take (chart .header .nodes * blockCount chart) (one .may) ≡ take (chart .header .nodes * blockCount chart) (other .may)
-  pub marks : take (chart .header .nodes) (one .marks) ≡ take (chart .header .nodes) (other .marks)
+  pub must : take (agesUsed chart) (one .must) ≡ take (agesUsed chart) (other .must)
+  pub may : take (agesUsed chart) (one .may) ≡ take (agesUsed chart) (other .may)
+  pub marks : take (marksUsed chart) (one .marks) ≡ take (marksUsed chart) (other .marks)
   pub one-long : tableShort chart one ≡ false
   pub other-long : tableShort chart other ≡ false
 
--- What the analysis of these bytes, with this allowance and these buffers, says.
-abbrev pub says : List ℕ → ℕ → Buffers → Said
-says bytes allowance lent = analysedSays (analysed bytes allowance lent .answer)
+-- Refusals 1 to 10: when they are given, and that every function gives them and leaves its buffers as they were.
+pub record ReadingRefusals : Type 0 where
+  pub given : (bytes : List ℕ) (refusal : Refusal) → FirstApplies (chartRules bytes) refusal → readChart bytes ≡ refused refusal
+  pub only : (bytes : List ℕ) (refusal : Refusal) → readChart bytes ≡ refused refusal → FirstApplies (chartRules bytes) refusal
+  pub to-analysis : (bytes : List ℕ) (refusal : Refusal) (allowance : ℕ) (lent : Buffers) → readChart bytes ≡ refused refusal → analysed bytes allowance lent ≡ refuse lent refusal
+  pub to-checker : (bytes : List ℕ) (refusal : Refusal) (table : Lent) → readChart bytes ≡ refused refusal → checked bytes table ≡ CheckerRefused refusal
+  pub to-totals : (bytes : List ℕ) (refusal : Refusal) (table : Lent) (prices : Prices) → readChart bytes ≡ refused refusal → totals bytes table prices ≡ TotalsRefused refusal
+  -- "There may be 0 to 64 of them."
+  pub few-blocks : (bytes : List ℕ) (chart : Chart) → readChart bytes ≡ accepted chart → blockCount chart ≤ mostBlocks
+
+-- The analysis of an accepted chart: 11 if a buffer is short; else 12 if every pass that is allowed changes something; else it settles.
+pub record AnalysisRefusals (bytes : List ℕ) (chart : Chart) (allowance : ℕ) (lent : Buffers) : Type 0 where
+  pub short : buffersShort chart lent ≡ true → analysed bytes allowance lent ≡ refuse lent ShortBuffer
+  pub unsettled : buffersShort chart lent ≡ false → AllChange chart allowance → analysed bytes allowance lent ≡ record { answer = AnalysisRefused (Unsettled allowance (blockCount chart)); buffers = filledByZeros chart lent }
+  pub settled : buffersShort chart lent ≡ false → (AllChange chart allowance → ⊥) → (passes : ℕ) × (analysed bytes allowance lent .answer ≡ Settled passes (blockCount chart))
+
+-- The checker of an accepted chart's table: 11 if it is short, else yes or no.
+pub record CheckerRefusals (bytes : List ℕ) (chart : Chart) (table : Lent) : Type 0 where
+  pub short : tableShort chart table ≡ true → checked bytes table ≡ CheckerRefused ShortBuffer
+  pub answers : tableShort chart table ≡ false → (checked bytes table ≡ Passes) ⊎ (checked bytes table ≡ Fails)
+
+-- The totals of an accepted chart: the first of 11 and 13 to 17 that applies, else the two sums.
+pub record TotalsRefusals (bytes : List ℕ) (chart : Chart) (table : Lent) (prices : Prices) : Type 0 where
+  pub given : (refusal : Refusal) → FirstApplies (totalRules chart table prices) refusal → totals bytes table prices ≡ TotalsRefused refusal
+  pub sums : NoneApplies (totalRules chart table prices) → totals bytes table prices ≡ Between (lowTotal chart table prices) (highTotal chart table prices)
 
 pub record Demand1 : Type 0 where
-  -- refusals 1 to 10 are given exactly when their row is the first that applies
-  pub read-when : (bytes : List ℕ) (refusal : Refusal) → (readChart bytes ≡ refused refusal → FirstApplies (chartRules bytes) refusal) × (FirstApplies (chartRules bytes) refusal → readChart bytes ≡ refused refusal)
-  -- 11 to the analysis exactly when none of those applies and a buffer is shorter than used
-  pub short-when : (bytes : List ℕ) (allowance : ℕ) (lent : Buffers) (chart : Chart) → readChart bytes ≡ accepted chart → (says bytes allowance lent .number ≡ 11 → buffersShort chart lent ≡ true) × (buffersShort chart lent ≡ true → says bytes allowance lent .number ≡ 11)
-  -- 12 exactly when none of those applies and each pass that is allowed changes something
-  pub unsettled-when : (bytes : List ℕ) (allowance : ℕ) (lent : Buffers) (chart : Chart) → readChart bytes ≡ accepted chart → buffersShort chart lent ≡ false → (says bytes allowance lent .number ≡ 12 → AllChange chart allowance) × (AllChange chart allowance → says bytes allowance lent .number ≡ 12)
-  -- 13 to 17 to the totals exactly when their row is the first that applies
-  pub totals-when : (bytes : List ℕ) (table : Lent) (prices : Prices) (refusal : Refusal) (chart : Chart) → readChart bytes ≡ accepted chart → (totals bytes table prices ≡ Refused refusal → FirstApplies (totalRules chart table prices) refusal) × (FirstApplies (totalRules chart table prices) refusal → totals bytes table prices ≡ Refused refusal)
+  pub reading : ReadingRefusals
+  pub analysis : (bytes : List ℕ) (chart : Chart) (allowance : ℕ) (lent : Buffers) → readChart bytes ≡ accepted chart → AnalysisRefusals bytes chart allowance lent
+  pub checker : (bytes : List ℕ) (chart : Chart) (table : Lent) → readChart bytes ≡ accepted chart → CheckerRefusals bytes chart table
+  pub totalling : (bytes : List ℕ) (chart : Chart) (table : Lent) (prices : Prices) → readChart bytes ≡ accepted chart → TotalsRefusals bytes chart table prices
   -- "The analysis uses 1 to 12", "the checker uses 1 to 11", "the totals use 1 to 11 and 13 to 17"
-  pub analysis-numbers : (bytes : List ℕ) (allowance : ℕ) (lent : Buffers) → says bytes allowance lent .number ≤ 12
+  pub analysis-numbers : (bytes : List ℕ) (allowance : ℕ) (lent : Buffers) → analysedSays (analysed bytes allowance lent .answer) .number ≤ 12
   pub checker-numbers : (bytes : List ℕ) (table : Lent) → checkedSays (checked bytes table) .number ≤ 11
   pub totals-numbers : (bytes : List ℕ) (table : Lent) (prices : Prices) → (totalsSay (totals bytes table prices) .number ≤ 17) × (totalsSay (totals bytes table prices) .number ≡ 12 → ⊥)
-  -- "After 1 to 11 nothing lent has changed."
-  pub nothing-changed : (bytes : List ℕ) (allowance : ℕ) (lent : Buffers) → 0 < says bytes allowance lent .number → says bytes allowance lent .number < 12 → analysed bytes allowance lent .buffers ≡ lent
-  -- no buffer grows or shrinks
-  pub same-lengths : (bytes : List ℕ) (allowance : ℕ) (lent : Buffers) → SameLengths lent (analysed bytes allowance lent .buffers)
   -- "Every refusal returns its number and place, with pass count, block count and totals 0, save that 12 also returns the allowance
   -- and B."
-  pub refusal-zero : (bytes : List ℕ) (allowance : ℕ) (lent : Buffers) → 0 < says bytes allowance lent .number → says bytes allowance lent .number < 12 → (says bytes allowance lent .passes ≡ 0) × (says bytes allowance lent .blocks ≡ 0)
-  pub refusal-12 : (bytes : List ℕ) (allowance : ℕ) (lent : Buffers) (chart : Chart) → readChart bytes ≡ accepted chart → says bytes allowance lent .number ≡ 12 → (says bytes allowance lent .passes ≡ allowance) × (says bytes allowance lent .blocks ≡ blockCount chart)
-  pub totals-zero : (bytes : List ℕ) (table : Lent) (prices : Prices) → 0 < totalsSay (totals bytes table prices) .number → (totalsSay (totals bytes table prices) .low ≡ 0) × (totalsSay (totals bytes table prices) .high ≡ 0)
+  pub refusal-values : (refusal : Refusal) → (numberOf refusal ≡ 12 → ⊥) → refusalSays refusal ≡ refusalWith 0 0 refusal
+  pub unsettled-values : (allowance blocks : ℕ) → refusalSays (Unsettled allowance blocks) ≡ refusalWith allowance blocks (Unsettled allowance blocks)
+  -- no buffer grows or shrinks
+  pub same-lengths : (bytes : List ℕ) (allowance : ℕ) (lent : Buffers) → SameLengths lent (analysed bytes allowance lent .buffers)
   -- "Both read only the used parts of a lent table"
   pub checker-used : (bytes : List ℕ) (chart : Chart) (one other : Lent) → readChart bytes ≡ accepted chart → SameUsed chart one other → checked bytes one ≡ checked bytes other
   pub totals-used : (bytes : List ℕ) (chart : Chart) (one other : Lent) (prices : Prices) → readChart bytes ≡ accepted chart → SameUsed chart one other → totals bytes one prices ≡ totals bytes other prices

@@ -1,44 +1,54 @@
 -- Demand 2: "Ages are those of the published LRU must and may analysis. A checker passes a table exactly when it meets the equations of
 -- document 01. The built-in analysis is refused only as 01 lists; otherwise its table passes and is the tightest of all that pass."
+-- (That it is refused only as 01 lists is `Demand1.analysis`.)
 use Prim.Native.Nat.{ℕ, suc, _≤_, _<_}
 use mathlib.Core.Path.{_≡_}
 use mathlib.Core.Bool.{true, false}
 use mathlib.Core.List.{List}
+use Rattle.chart.specs.Geometry.{mostNodes, mostBlocks}
 use Rattle.chart.specs.Chart.{Chart, accepted, readChart, arrows, blockCount}
 use Rattle.flow.specs.Flow.{cellAt}
 use Rattle.flow.specs.Passing.{Marked, Tightest}
 use Rattle.flow.specs.Pass.{pass, afterPasses}
 use Rattle.flow.specs.Walk.{Reached}
 use Rattle.analysis.specs.AgesFlow.{agesFlow, mostPasses, allPasses}
-use Rattle.analysis.specs.Lent.{Lent, tableOf, TablePasses, tableShort}
+use Rattle.analysis.specs.Lent.{Lent, tableOf, TablePasses}
 use Rattle.analysis.specs.declared.Analysed.the-variants.{Settled}
-use Rattle.analysis.specs.Analysis.{Buffers, buffersShort, tableIn, analysed}
-use Rattle.checker.specs.declared.Checked.the-variants.{Passes}
-use Rattle.checker.specs.Checker.{checked}
+use Rattle.analysis.specs.Analysis.{Buffers, buffersShort, filledBy, tableIn, analysed}
+use Rattle.checker.specs.Checker.{checked, checkedSays}
+use Rattle.report.specs.Report.{taken, zeroBuffers}
 
--- What holds of a chart and of the buffers after an analysis of it that settled.
-pub record Settles (chart : Chart) (passes : ℕ) (buffers : Buffers) : Type 0 where
-  -- "its table passes"
-  pub table-passes : TablePasses chart (tableIn buffers)
-  -- "and is the tightest of all that pass"
-  pub tightest : Tightest (agesFlow chart) (tableOf chart (tableIn buffers))
-  -- it is the table after that many passes, of which the last was the first to change nothing
-  pub after : tableOf chart (tableIn buffers) ≡ afterPasses (agesFlow chart) passes
+-- What holds of a chart, of the buffers lent and of the buffers left by an analysis that settled after so many passes.
+pub record Settles (chart : Chart) (passes blocks : ℕ) (lent left : Buffers) : Type 0 where
+  -- "returns its pass count and B"
+  pub counted : blocks ≡ blockCount chart
+  -- "settled after the first pass that changes nothing", "that last one included"
+  pub made : 0 < passes
   pub last : (k : ℕ) → suc k ≡ passes → pass (agesFlow chart) (afterPasses (agesFlow chart) k) .changed ≡ false
   pub earlier : (k : ℕ) → suc k < passes → pass (agesFlow chart) (afterPasses (agesFlow chart) k) .changed ≡ true
-  -- "The tightest marks a node exactly if a walk reaches it."
-  pub marks-reached : (n : ℕ) → (Marked (cellAt (tableOf chart (tableIn buffers)) n) → Reached (arrows chart) (chart .header .entry) n) × (Reached (arrows chart) (chart .header .entry) n → Marked (cellAt (tableOf chart (tableIn buffers)) n))
   -- "It is at most N(1 + 2BA) + 1"
   pub count : passes ≤ mostPasses chart
+  -- all five buffers, by the table after that many passes: blocks, ages, marks and classes written, tails kept
+  pub filled : left ≡ filledBy chart (afterPasses (agesFlow chart) passes) lent
+  pub table : tableOf chart (tableIn left) ≡ afterPasses (agesFlow chart) passes
+  -- "its table passes"
+  pub table-passes : TablePasses chart (tableIn left)
+  -- "and is the tightest of all that pass"
+  pub tightest : Tightest (agesFlow chart) (tableOf chart (tableIn left))
+  -- "The tightest marks a node exactly if a walk reaches it."
+  pub marked-reached : (n : ℕ) → Marked (cellAt (tableOf chart (tableIn left)) n) → Reached (arrows chart) (chart .header .entry) n
+  pub reached-marked : (n : ℕ) → Reached (arrows chart) (chart .header .entry) n → Marked (cellAt (tableOf chart (tableIn left)) n)
 
 pub record Demand2 : Type 0 where
   -- the checker says yes exactly if the table passes
-  pub checker-yes : (bytes : List ℕ) (chart : Chart) (table : Lent) → readChart bytes ≡ accepted chart → tableShort chart table ≡ false → (checked bytes table ≡ Passes → TablePasses chart table) × (TablePasses chart table → checked bytes table ≡ Passes)
+  pub checker-yes : (bytes : List ℕ) (chart : Chart) (table : Lent) → readChart bytes ≡ accepted chart → checkedSays (checked bytes table) .yes ≡ 1 → TablePasses chart table
+  pub yes-checker : (bytes : List ℕ) (chart : Chart) (table : Lent) → readChart bytes ≡ accepted chart → TablePasses chart table → checkedSays (checked bytes table) .yes ≡ 1
   -- an analysis that settles leaves the tightest table, which the checker passes
-  pub settled : (bytes : List ℕ) (chart : Chart) (allowance passes blocks : ℕ) (lent : Buffers) → readChart bytes ≡ accepted chart → analysed bytes allowance lent .answer ≡ Settled passes blocks → (blocks ≡ blockCount chart) × (Settles chart passes (analysed bytes allowance lent .buffers) × (checked bytes (tableIn (analysed bytes allowance lent .buffers)) ≡ Passes))
+  pub settled : (bytes : List ℕ) (chart : Chart) (allowance passes blocks : ℕ) (lent : Buffers) → readChart bytes ≡ accepted chart → analysed bytes allowance lent .answer ≡ Settled passes blocks → Settles chart passes blocks lent (analysed bytes allowance lent .buffers)
+  pub settled-yes : (bytes : List ℕ) (allowance passes blocks : ℕ) (lent : Buffers) → analysed bytes allowance lent .answer ≡ Settled passes blocks → checkedSays (checked bytes (tableIn (analysed bytes allowance lent .buffers))) .yes ≡ 1
   -- an accepted chart with room settles within every allowance of at least N(1 + 2BA) + 1 passes
   pub enough : (bytes : List ℕ) (chart : Chart) (allowance : ℕ) (lent : Buffers) → readChart bytes ≡ accepted chart → buffersShort chart lent ≡ false → mostPasses chart ≤ allowance → (passes : ℕ) × (analysed bytes allowance lent .answer ≡ Settled passes (blockCount chart))
-  -- the program's allowance is always enough
-  pub program-enough : (bytes : List ℕ) (chart : Chart) → readChart bytes ≡ accepted chart → mostPasses chart ≤ allPasses
+  -- so the program, which allows 262,401 and has room for the largest chart, reports every accepted chart
+  pub program-settles : (input : List ℕ) (chart : Chart) → readChart (taken input) ≡ accepted chart → (passes : ℕ) × (analysed (taken input) allPasses (zeroBuffers mostNodes mostBlocks) .answer ≡ Settled passes (blockCount chart))
   -- two allowances within which it settles agree in everything
   pub agree : (bytes : List ℕ) (one other passes passes′ blocks blocks′ : ℕ) (lent : Buffers) → analysed bytes one lent .answer ≡ Settled passes blocks → analysed bytes other lent .answer ≡ Settled passes′ blocks′ → analysed bytes one lent ≡ analysed bytes other lent

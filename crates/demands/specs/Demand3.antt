@@ -5,28 +5,45 @@ use Prim.Native.Nat.{ℕ, _≤_, _<_}
 use mathlib.Core.Path.{_≡_}
 use mathlib.Core.Bool.{true, false}
 use mathlib.Core.List.{List, _∷_}
-use lib.ListN.{getD}
-use Rattle.chart.specs.Blocks.{placeIn}
-use Rattle.chart.specs.Chart.{Chart, accepted, readChart, arrows, touches}
-use Rattle.cache.specs.Ages.{Ages, touchAges}
+use lib.ListN.{getD, length}
+use Rattle.chart.specs.Chart.{Chart, accepted, readChart, arrows, touches, blockCount}
+use Rattle.cache.specs.Ages.{Ages, ageOf}
 use Rattle.cache.specs.Plain.{Cache}
-use Rattle.flow.specs.Walk.{Walk, lastOf, visitsOf, AtTouches, paid, arriving}
-use Rattle.analysis.specs.AgesFlow.{columns}
+use Rattle.flow.specs.Flow.{cellAt}
+use Rattle.flow.specs.Passing.{Marked}
+use Rattle.flow.specs.Walk.{Walk, visitsOf, AtTouches}
+use Rattle.analysis.specs.AgesFlow.{touched}
 use Rattle.analysis.specs.Class.{hit, miss, classOf}
-use Rattle.analysis.specs.Lent.{Lent, agesAt}
-use Rattle.checker.specs.declared.Checked.the-variants.{Passes}
-use Rattle.checker.specs.Checker.{checked}
+use Rattle.analysis.specs.Lent.{Lent, agesAt, tableOf, TablePasses}
 use Rattle.totals.specs.declared.Totals.the-variants.{Between}
-use Rattle.totals.specs.Totals.{Prices, totals}
-use Rattle.demands.specs.Machine.{plainMachine, Begins}
+use Rattle.totals.specs.Totals.{Prices, lowTotal, highTotal, totals}
+use Rattle.demands.specs.Machine.{plainMachine, Begins, ageWith, lastNode, contentsAfter, costOf}
 
 -- A touch called a hit hits, one called a miss misses: by the table's state and the machine's contents just before it.
 pub record CalledRight (chart : Chart) (block : ℕ) (a : Ages) (cache : Cache) : Type 0 where
-  pub hit-hits : classOf (columns chart) (placeIn (chart .blocks) block) a ≡ hit → plainMachine chart .finds block cache ≡ true
-  pub miss-misses : classOf (columns chart) (placeIn (chart .blocks) block) a ≡ miss → plainMachine chart .finds block cache ≡ false
+  pub hit-hits : classOf chart block a ≡ hit → plainMachine chart .finds block cache ≡ true
+  pub miss-misses : classOf chart block a ≡ miss → plainMachine chart .finds block cache ≡ false
+
+-- What a passing table says of the last node of a walk, where the machine arrives with these contents. Since a walk may stop
+-- anywhere, it says so of each node of it.
+pub record SaysTrue (chart : Chart) (table : Lent) (n : ℕ) (cache : Cache) : Type 0 where
+  pub marked : Marked (cellAt (tableOf chart table) n)
+  -- "a must age (upper bound, 0 to A) and a may age (lower bound, 0 to A)"
+  pub must-above : (column : ℕ) → column < blockCount chart → ageWith chart cache (getD (chart .blocks) column 0) ≤ ageOf (agesAt chart table n .must) column
+  pub may-below : (column : ℕ) → column < blockCount chart → ageOf (agesAt chart table n .may) column ≤ ageWith chart cache (getD (chart .blocks) column 0)
+  -- each touch of the node, in turn
+  pub called-right : AtTouches (touched chart) (plainMachine chart .act) (CalledRight chart) (touches chart n) (agesAt chart table n) cache
+
+-- "visits lie between floors and ceilings"
+abbrev pub VisitsWithin : Chart → Prices → List ℕ → Type 0
+VisitsWithin chart prices ts = (n : ℕ) → n < chart .header .nodes → (getD (prices .floors) n 0 ≤ visitsOf n (chart .header .entry ∷ ts)) × (visitsOf n (chart .header .entry ∷ ts) ≤ getD (prices .ceilings) n 0)
+
+-- The totals are given, and the cost lies between them.
+pub record CostBetween (bytes : List ℕ) (chart : Chart) (table : Lent) (prices : Prices) (ts : List ℕ) (cache : Cache) : Type 0 where
+  pub given : totals bytes table prices ≡ Between (lowTotal chart table prices) (highTotal chart table prices)
+  pub low : lowTotal chart table prices ≤ costOf chart (prices .hitCost) (prices .missCost) ts cache
+  pub high : costOf chart (prices .hitCost) (prices .missCost) ts cache ≤ highTotal chart table prices
 
 pub record Demand3 : Type 0 where
-  -- At the last node of any walk; since a walk may stop anywhere, at each of its nodes.
-  pub called-right : (bytes : List ℕ) (chart : Chart) (table : Lent) → readChart bytes ≡ accepted chart → checked bytes table ≡ Passes → (cache : Cache) → Begins chart cache → (ts : List ℕ) → Walk (arrows chart) (chart .header .entry) ts → AtTouches (λ block. touchAges (columns chart) (placeIn (chart .blocks) block)) (plainMachine chart .act) (CalledRight chart) (touches chart (lastOf (chart .header .entry) ts)) (agesAt chart table (lastOf (chart .header .entry) ts)) (arriving (plainMachine chart) (touches chart) (chart .header .entry) ts cache)
-  -- The totals are refused where a miss costs less than a hit (15), so an answer says that it does not.
-  pub cost-between : (bytes : List ℕ) (chart : Chart) (table : Lent) (prices : Prices) (low high : ℕ) → readChart bytes ≡ accepted chart → totals bytes table prices ≡ Between low high → (cache : Cache) → Begins chart cache → (ts : List ℕ) → Walk (arrows chart) (chart .header .entry) ts → ((n : ℕ) → n < chart .header .nodes → (getD (prices .floors) n 0 ≤ visitsOf n (chart .header .entry ∷ ts)) × (visitsOf n (chart .header .entry ∷ ts) ≤ getD (prices .ceilings) n 0)) → (low ≤ paid (plainMachine chart) (prices .hitCost) (prices .missCost) (touches chart) (chart .header .entry) ts cache) × (paid (plainMachine chart) (prices .hitCost) (prices .missCost) (touches chart) (chart .header .entry) ts cache ≤ high)
+  pub says-true : (bytes : List ℕ) (chart : Chart) (table : Lent) → readChart bytes ≡ accepted chart → TablePasses chart table → (cache : Cache) → Begins chart cache → (ts : List ℕ) → Walk (arrows chart) (chart .header .entry) ts → SaysTrue chart table (lastNode chart ts) (contentsAfter chart ts cache)
+  pub cost-between : (bytes : List ℕ) (chart : Chart) (table : Lent) (prices : Prices) → readChart bytes ≡ accepted chart → TablePasses chart table → length (prices .floors) ≡ chart .header .nodes → length (prices .ceilings) ≡ chart .header .nodes → prices .hitCost ≤ prices .missCost → (cache : Cache) → Begins chart cache → (ts : List ℕ) → Walk (arrows chart) (chart .header .entry) ts → VisitsWithin chart prices ts → CostBetween bytes chart table prices ts cache

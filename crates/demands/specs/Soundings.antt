@@ -4,17 +4,16 @@ use Prim.Native.Nat.{ℕ}
 use mathlib.Core.List.{List, [], _∷_, _++_}
 use lib.ListN.{replicate}
 use Rattle.chart.specs.Layout.{wordAt}
-use Rattle.chart.specs.Header.{headerOf}
-use Rattle.chart.specs.Chart.{Chart, chartOf, touches}
+use Rattle.chart.specs.Header.{headerOf, nodeCount}
+use Rattle.chart.specs.Chart.{Chart, chartOf}
 use Rattle.cache.specs.Ages.{Columns, Ages, touchAges, meetAges}
 use Rattle.cache.specs.Plain.{emptyCache}
-use Rattle.flow.specs.Walk.{paid}
 use Rattle.analysis.specs.AgesFlow.{allPasses}
 use Rattle.analysis.specs.Analysis.{Buffers, tableIn, analysed}
-use Rattle.report.specs.Report.{zeroBuffers, report}
+use Rattle.report.specs.Report.{zeroBuffers}
 use Rattle.totals.specs.Totals.{Prices, totals, totalsSay}
-use Rattle.demands.specs.Machine.{plainMachine}
-use Rattle.demands.specs.Charts.{oneSetTwoWaysEmpty, oneSetTwoWays, oneSetOneWay, twoSetsOneWay, loopChart, loopReport, straightChart}
+use Rattle.demands.specs.Machine.{costOf}
+use Rattle.demands.specs.Charts.{oneSetTwoWaysEmpty, oneSetTwoWays, oneSetOneWay, twoSetsOneWay, loopChart, straightChart}
 
 -- ---- how each is read off the definitions
 
@@ -29,16 +28,15 @@ abbrev pub mayTouched : List ℕ → ℕ → List ℕ
 mayTouched row m = touchAges (fourWays 5) m (record { must = row; may = row }) .may
 
 abbrev pub meeting : List ℕ → List ℕ → Ages
-meeting one other = meetAges (fourWays 2) (record { must = one; may = one }) (record { must = other; may = other })
+meeting one other =
+    meetAges (fourWays 2) (record { must = one; may = one }) (record { must = other; may = other })
 
-abbrev pub zeros : Buffers
-zeros = zeroBuffers 3 2
-
+-- The buffers after an analysis with room for as many nodes as the chart has, and for two blocks.
 abbrev pub after : List ℕ → Buffers
-after bytes = analysed bytes allPasses zeros .buffers
+after bytes = analysed bytes allPasses (zeroBuffers (nodeCount (wordAt bytes 0)) 2) .buffers
 
-abbrev pub classesOf : List ℕ → List ℕ
-classesOf bytes = after bytes .classes
+abbrev pub classesFor : List ℕ → List ℕ
+classesFor bytes = after bytes .classes
 
 -- "costs 1 and 10, floors 1 1 1, ceilings 1 10 1"
 abbrev pub loopPrices : Prices
@@ -59,9 +57,9 @@ loopTotals =
 abbrev pub loop : Chart
 loop = chartOf loopChart (headerOf (wordAt loopChart 0))
 
--- "The walk with ten turns": node 0, ten times node 1, node 2.
-abbrev pub tenTurns : ℕ
-tenTurns = paid (plainMachine loop) 1 10 (touches loop) 0 (replicate 10 1 ++ 2 ∷ []) emptyCache
+-- "The walk with ten turns": node 0, then ten times node 1, then node 2.
+abbrev pub tenTurns : List ℕ
+tenTurns = replicate 10 1 ++ 2 ∷ []
 
 -- ---- the list
 
@@ -78,25 +76,23 @@ row = 0 ∷ 1 ∷ 1 ∷ 3 ∷ 4 ∷ []
 
 abbrev pub starred : List Sounding
 starred =
-    -- must 0 1 1 3 4, touch c; may, the same
+    -- must 0 1 1 3 4, touch c; may 0 1 1 3 4, touch c
     (mustTouched row 2 reads (1 ∷ 1 ∷ 0 ∷ 3 ∷ 4 ∷ []))
     ∷ (mayTouched row 2 reads (1 ∷ 2 ∷ 0 ∷ 3 ∷ 4 ∷ []))
-    -- touch e
+    -- must 0 1 1 3 4, touch e; may, the same
     ∷ (mustTouched row 4 reads (1 ∷ 2 ∷ 2 ∷ 4 ∷ 0 ∷ []))
     ∷ (mayTouched row 4 reads (1 ∷ 2 ∷ 2 ∷ 4 ∷ 0 ∷ []))
-    -- 1 3 meets 2 4
+    -- must 1 3 meets 2 4; may
     ∷ (meeting (1 ∷ 3 ∷ []) (2 ∷ 4 ∷ []) .must reads (2 ∷ 4 ∷ []))
     ∷ (meeting (1 ∷ 3 ∷ []) (2 ∷ 4 ∷ []) .may reads (1 ∷ 3 ∷ []))
     -- 0x00, 0x10, 0x00: one set, two ways, unknown; empty; one way, unknown
-    ∷ (classesOf (straightChart oneSetTwoWays 0x04) reads (3 ∷ 3 ∷ 1 ∷ []))
-    ∷ (classesOf (straightChart oneSetTwoWaysEmpty 0x04) reads (2 ∷ 2 ∷ 1 ∷ []))
-    ∷ (classesOf (straightChart oneSetOneWay 0x04) reads (3 ∷ 2 ∷ 2 ∷ []))
+    ∷ (classesFor (straightChart oneSetTwoWays 0x04) reads (3 ∷ 3 ∷ 1 ∷ []))
+    ∷ (classesFor (straightChart oneSetTwoWaysEmpty 0x04) reads (2 ∷ 2 ∷ 1 ∷ []))
+    ∷ (classesFor (straightChart oneSetOneWay 0x04) reads (3 ∷ 2 ∷ 2 ∷ []))
     -- 0x00, 0x20, 0x00, unknown: one set of two ways; two sets of one way
-    ∷ (classesOf (straightChart oneSetTwoWays 0x08) reads (3 ∷ 3 ∷ 1 ∷ []))
-    ∷ (classesOf (straightChart twoSetsOneWay 0x08) reads (3 ∷ 2 ∷ 2 ∷ []))
-    -- the loop chart's report, byte for byte, its totals, and the walk with ten turns
-    ∷ (report loopChart reads loopReport)
-    ∷ (classesOf loopChart reads (4 ∷ 3 ∷ 1 ∷ []))
+    ∷ (classesFor (straightChart oneSetTwoWays 0x08) reads (3 ∷ 3 ∷ 1 ∷ []))
+    ∷ (classesFor (straightChart twoSetsOneWay 0x08) reads (3 ∷ 2 ∷ 2 ∷ []))
+    -- the loop chart's totals, and the walk with ten turns
     ∷ (loopTotals reads (2 ∷ 101 ∷ []))
-    ∷ ((tenTurns ∷ []) reads (20 ∷ []))
+    ∷ ((costOf loop 1 10 tenTurns emptyCache ∷ []) reads (20 ∷ []))
     ∷ []

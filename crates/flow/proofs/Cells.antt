@@ -10,27 +10,27 @@ use lib.ListN.{length, length-set}
 use lib.Seq.{getD-set-same, getD-set-other}
 use Rattle.flow.specs.Flow.{Cell, blank, holds, cellAt, Flow, Table}
 use Rattle.flow.specs.Passing.{CellBelow, CellOk, leaving}
-use Rattle.flow.specs.Pass.{met, changes, place}
+use Rattle.flow.specs.Pass.{met, changes, metAt}
 use Rattle.flow.specs.Laws.{Laws}
 
 module _ (F : Flow) where
-  -- A property of every cell, after a place: it holds of the new cell, and of the others as before.
-  pub place-all : (Q : ℕ → Cell (F .State) → Type 0) (T : Table F) (t : ℕ) (x : F .State) → t < length T → Q t (met F (cellAt T t) x) → ((m : ℕ) → Q m (cellAt T m))
-      → (m : ℕ) → Q m (cellAt (place F T t x) m)
-  unfolding place
-  place-all Q T t x h new old m = go (ℕ-discrete m t)
+  -- A property of every cell, after a meeting: it holds of the cell met, and of the others as before.
+  pub metAt-all : (Q : ℕ → Cell (F .State) → Type 0) (T : Table F) (t : ℕ) (x : F .State) → t < length T → Q t (met F (cellAt T t) x) → ((m : ℕ) → Q m (cellAt T m))
+      → (m : ℕ) → Q m (cellAt (metAt F T t x) m)
+  unfolding metAt
+  metAt-all Q T t x h new old m = go (ℕ-discrete m t)
     where
-      go : Dec (m ≡ t) → Q m (cellAt (place F T t x) m)
-      go (yes e) = subst (λ (k : ℕ). Q k (cellAt (place F T t x) k)) (sym e) (subst (Q t) (sym (getD-set-same T t (met F (cellAt T t) x) blank h)) new)
+      go : Dec (m ≡ t) → Q m (cellAt (metAt F T t x) m)
+      go (yes e) = subst (λ (k : ℕ). Q k (cellAt (metAt F T t x) k)) (sym e) (subst (Q t) (sym (getD-set-same T t (met F (cellAt T t) x) blank h)) new)
       go (no ne) = subst (Q m) (sym (getD-set-other T t m (met F (cellAt T t) x) blank ne)) (old m)
 
-  pub place-length : (T : Table F) (t : ℕ) (x : F .State) → length (place F T t x) ≡ length T
-  unfolding place
-  place-length T t x = length-set T t (met F (cellAt T t) x)
+  pub metAt-length : (T : Table F) (t : ℕ) (x : F .State) → length (metAt F T t x) ≡ length T
+  unfolding metAt
+  metAt-length T t x = length-set T t (met F (cellAt T t) x)
 
-  pub place-at : (T : Table F) (t : ℕ) (x : F .State) → t < length T → cellAt (place F T t x) t ≡ met F (cellAt T t) x
-  unfolding place
-  place-at T t x h = getD-set-same T t (met F (cellAt T t) x) blank h
+  pub metAt-at : (T : Table F) (t : ℕ) (x : F .State) → t < length T → cellAt (metAt F T t x) t ≡ met F (cellAt T t) x
+  unfolding metAt
+  metAt-at T t x h = getD-set-same T t (met F (cellAt T t) x) blank h
 
   pub cell-in : (T : Table F) (n : ℕ) (x : F .State) → cellAt T n ≡ holds x → n < length T
   cell-in [] n x e = let z : _≡_ {A = ℕ} 0 1 = cc in omega arith

@@ -1,24 +1,19 @@
--- Passing end: with a height that grows with each change and is bounded, an allowance of nodes * (1 + bound) + 1 settles.
+-- Passes end: with a height that grows with each change and is bounded, an allowance of nodes * (1 + bound) + 1 settles.
 -- And what the outcome of a settling says of the passes made.
 use mathlib.Core.Path.{_≡_, refl, sym, ap, _∙_, subst}
-use mathlib.Core.Bool.{Bool, true, false, not, true≢false, false≢true}
+use mathlib.Core.Bool.{Bool, true, false, true≢false}
 use mathlib.Core.List.{List, [], _∷_}
 use mathlib.Core.Logic.{inl, inr}
 use Prim.Native.Nat.{ℕ, zero, suc, _+_, _*_, _≤_, _<_}
 use native.Mathlib.Omega.{arith}
+use borrow.Author.Tests.{not-true}
 use native.Mathlib.Decide.{ℕ-discrete}
 use lib.ListN.{length, set}
 use Rattle.flow.proofs.Cells.{real}
-use Rattle.flow.proofs.Settling.{Fair, Due, place-still, due, put-on, visits-on, pass-fair, before-fair}
+use Rattle.flow.proofs.Settling.{Fair, Due, metAt-still, due, put-on, visits-on, pass-fair, before-fair}
 use Rattle.flow.specs.Flow.{Cell, blank, holds, cellAt, Among, Flow, Table}
-use Rattle.flow.specs.Pass.{Run, settled, spent, met, changes, place, put, putAll, visitWith, visit, visits, pass, before, afterPasses, settleFrom, settle}
-use Rattle.flow.specs.Laws.{Laws}
-
-pub record Height (F : Flow) (L : Laws F) : Type 0 where
-  pub height : F .State → ℕ
-  pub bound : ℕ
-  pub bounded : (n : ℕ) (a : F .State) → L .Real n a → height a ≤ bound
-  pub grows : (n : ℕ) (a b : F .State) → L .Real n a → L .Real n b → F .same (F .meet a b) a ≡ false → height a < height (F .meet a b)
+use Rattle.flow.specs.Pass.{Run, settled, spent, met, changes, metAt, put, putAll, visitWith, visit, visits, pass, before, afterPasses, settleFrom, settle}
+use Rattle.flow.specs.Laws.{Laws, Height}
 
 -- The clauses of a settling, as laws for a loop.
 module _ (F : Flow) where
@@ -60,10 +55,6 @@ module _ (F : Flow) (L : Laws F) (H : Height F L) where
       let ih = tab-bound (suc k) T (λ n. let e : suc k + n ≡ k + suc n = omega arith in rw e (o (suc n))) in
       omega arith
 
-  not-true : (b : Bool) → not b ≡ true → b ≡ false
-  not-true true e = absurd (false≢true e)
-  not-true false e = refl
-
   meet-height : (n : ℕ) (c : Cell (F .State)) (x : F .State) → real F L n c → L .Real n x → changes F c x ≡ true → cell-height c < cell-height (met F c x)
   unfolding met changes
   meet-height n blank x o p e = omega arith
@@ -73,9 +64,9 @@ module _ (F : Flow) (L : Laws F) (H : Height F L) where
   pub fair-bound : (T : Table F) → Fair F L T → tab-height F L H T ≤ F .nodes * suc (H .bound)
   fair-bound T f = subst (λ (n : ℕ). tab-height F L H T ≤ n * suc (H .bound)) (f .long) (tab-bound F L H zero T (λ n. let e : zero + n ≡ n = omega arith in rw e (f .fine n)))
 
-  pub place-height : (T : Table F) (t : ℕ) (x : F .State) → Fair F L T → Due F L t x → changes F (cellAt T t) x ≡ true → tab-height F L H T < tab-height F L H (place F T t x)
-  unfolding place
-  place-height T t x f d e =
+  pub metAt-height : (T : Table F) (t : ℕ) (x : F .State) → Fair F L T → Due F L t x → changes F (cellAt T t) x ≡ true → tab-height F L H T < tab-height F L H (metAt F T t x)
+  unfolding metAt
+  metAt-height T t x f d e =
       let l = f .long in
       let i = d .inside in
       let b : t < length T = omega arith in
@@ -103,9 +94,9 @@ module _ (F : Flow) (L : Laws F) (H : Height F L) where
   put-up x t r f d = go (changes F (cellAt (r .table) t) x) refl
     where
       go : (b : Bool) → changes F (cellAt (r .table) t) x ≡ b → Up r (put F x t r)
-      go true e = let h = place-height (r .table) t x f d e in record { up = omega arith; strict = λ p q. h }
+      go true e = let h = metAt-height (r .table) t x f d e in record { up = omega arith; strict = λ p q. h }
       go false e = record {
-        up = rw (place-still F L (r .table) t x e) (omega arith);
+        up = rw (metAt-still F L (r .table) t x e) (omega arith);
         strict = λ p q. absurd (true≢false (sym p ∙ (rw (q, e) refl)));
       }
 

@@ -66,6 +66,7 @@ module _ (F : Flow) (L : Laws F) where
     real-meet = λ n a b r s. (L .real-meet n a b (r .0) (s .0), r .1);
     below-refl = L .below-refl;
     below-trans = L .below-trans;
+    below-both = L .below-both;
     meet-left = λ n a b r s. L .meet-left n a b (r .0) (s .0);
     meet-right = λ n a b r s. L .meet-right n a b (r .0) (s .0);
     meet-least = λ n a b c r s. L .meet-least n a b c (r .0) (s .0);

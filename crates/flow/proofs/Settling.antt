@@ -1,5 +1,5 @@
 -- Every table that passes reach from the first is below every table that passes; a pass that changes nothing leaves a table that passes.
-use mathlib.Core.Path.{_≡_, refl, sym, _∙_, subst}
+use mathlib.Core.Path.{_≡_, refl, sym, ap, _∙_, subst}
 use mathlib.Core.Bool.{Bool, true, false, _||_, true≢false}
 use mathlib.Core.List.{List, [], _∷_}
 use mathlib.Core.Logic.{inl, inr, _≢_}
@@ -7,12 +7,12 @@ use Prim.Native.Nat.{ℕ, zero, suc, _<_}
 use native.Mathlib.Omega.{arith}
 use native.Mathlib.Decide.{ℕ-discrete}
 use lib.ListN.{length, replicate, length-set, length-replicate}
-use lib.Seq.{getD-set-same, getD-set-other, set-getD}
+use lib.Seq.{ext-getD, getD-set-same, getD-set-other, set-getD}
 use Rattle.flow.specs.Flow.{Cell, blank, holds, cellAt, Among, Flow, Table}
-use Rattle.flow.specs.Passing.{CellBelow, leaving, Under, Passing, Tightest}
-use Rattle.flow.specs.Pass.{Run, settled, changes, place, put, putAll, visitWith, visit, visits, pass, before, afterPasses, settleFrom, settle}
+use Rattle.flow.specs.Passing.{CellBelow, CellOk, leaving, Under, Passing, Tightest}
+use Rattle.flow.specs.Pass.{Run, settled, changes, metAt, put, putAll, visitWith, visit, visits, pass, before, afterPasses, settleFrom, settle}
 use Rattle.flow.specs.Laws.{Laws}
-use Rattle.flow.proofs.Cells.{place-all, place-length, place-at, cell-in, real, cell-ok, cell-refl, cell-trans, met-left, met-right, met-least, met-real, met-still, leaving-monotone}
+use Rattle.flow.proofs.Cells.{metAt-all, metAt-length, metAt-at, cell-in, real, cell-ok, cell-refl, cell-trans, met-left, met-right, met-least, met-real, met-still, leaving-monotone}
 
 module _ (F : Flow) (L : Laws F) where
   -- What is known of every table on the way: it is long enough and well formed, it has the start, and it is below every table that passes.
@@ -28,30 +28,30 @@ module _ (F : Flow) (L : Laws F) where
     pub good : L .Real t x
     pub owed : (P : Table F) → Passing F P → CellBelow F (holds x) (cellAt P t)
 
-  place-in : (T : Table F) (t : ℕ) → length T ≡ F .nodes → t < F .nodes → t < length T
-  place-in T t e h = omega arith
+  metAt-in : (T : Table F) (t : ℕ) → length T ≡ F .nodes → t < F .nodes → t < length T
+  metAt-in T t e h = omega arith
 
-  pub place-grows : (T : Table F) (t : ℕ) (x : F .State) → Fair T → Due t x → Under F T (place F T t x)
-  place-grows T t x f d =
-      place-all F (λ m c. CellBelow F (cellAt T m) c) T t x (place-in T t (f .long) (d .inside)) (met-left F L t (cellAt T t) x (f .fine t) (d .good)) (λ m. cell-refl F L (cellAt T m))
+  pub metAt-grows : (T : Table F) (t : ℕ) (x : F .State) → Fair T → Due t x → Under F T (metAt F T t x)
+  metAt-grows T t x f d =
+      metAt-all F (λ m c. CellBelow F (cellAt T m) c) T t x (metAt-in T t (f .long) (d .inside)) (met-left F L t (cellAt T t) x (f .fine t) (d .good)) (λ m. cell-refl F L (cellAt T m))
 
-  pub place-has : (T : Table F) (t : ℕ) (x : F .State) → Fair T → Due t x → CellBelow F (holds x) (cellAt (place F T t x) t)
-  place-has T t x f d = rw (place-at F T t x (place-in T t (f .long) (d .inside))) (met-right F L t (cellAt T t) x (f .fine t) (d .good))
+  pub metAt-has : (T : Table F) (t : ℕ) (x : F .State) → Fair T → Due t x → CellBelow F (holds x) (cellAt (metAt F T t x) t)
+  metAt-has T t x f d = rw (metAt-at F T t x (metAt-in T t (f .long) (d .inside))) (met-right F L t (cellAt T t) x (f .fine t) (d .good))
 
-  pub place-fair : (T : Table F) (t : ℕ) (x : F .State) → Fair T → Due t x → Fair (place F T t x)
-  place-fair T t x f d = record {
-    long = place-length F T t x ∙ f .long;
-    fine = place-all F (λ m c. real F L m c) T t x b (met-real F L t (cellAt T t) x (f .fine t) (d .good)) (f .fine);
-    begun = cell-trans F L (holds (F .start)) (cellAt T (F .entry)) (cellAt (place F T t x) (F .entry)) (f .begun) (place-grows T t x f d (F .entry));
-    under = λ P p. place-all F (λ m c. CellBelow F c (cellAt P m)) T t x b (met-least F L t (cellAt T t) (cellAt P t) x (f .fine t) (p .fine t) (d .good) (f .under P p t) (d .owed P p)) (f .under P p);
+  pub metAt-fair : (T : Table F) (t : ℕ) (x : F .State) → Fair T → Due t x → Fair (metAt F T t x)
+  metAt-fair T t x f d = record {
+    long = metAt-length F T t x ∙ f .long;
+    fine = metAt-all F (λ m c. real F L m c) T t x b (met-real F L t (cellAt T t) x (f .fine t) (d .good)) (f .fine);
+    begun = cell-trans F L (holds (F .start)) (cellAt T (F .entry)) (cellAt (metAt F T t x) (F .entry)) (f .begun) (metAt-grows T t x f d (F .entry));
+    under = λ P p. metAt-all F (λ m c. CellBelow F c (cellAt P m)) T t x b (met-least F L t (cellAt T t) (cellAt P t) x (f .fine t) (p .fine t) (d .good) (f .under P p t) (d .owed P p)) (f .under P p);
   }
     where
       b : t < length T
-      b = place-in T t (f .long) (d .inside)
+      b = metAt-in T t (f .long) (d .inside)
 
-  pub place-still : (T : Table F) (t : ℕ) (x : F .State) → changes F (cellAt T t) x ≡ false → place F T t x ≡ T
-  unfolding place
-  place-still T t x e = rw (met-still F L (cellAt T t) x e) (set-getD T t blank)
+  pub metAt-still : (T : Table F) (t : ℕ) (x : F .State) → changes F (cellAt T t) x ≡ false → metAt F T t x ≡ T
+  unfolding metAt
+  metAt-still T t x e = rw (met-still F L (cellAt T t) x e) (set-getD T t blank)
 
   -- what leaves a marked node is due at each of its targets
   pub due : (T : Table F) (n : ℕ) (x : F .State) → Fair T → cellAt T n ≡ holds x → (t : ℕ) → Among t (F .arrows n) → Due (t) (F .step n x)
@@ -89,9 +89,9 @@ module _ (F : Flow) (L : Laws F) where
   pub put-on : (x : F .State) (t : ℕ) (r : Run (F .State)) → Fair (r .table) → Due t x → On r (put F x t r)
   unfolding put
   put-on x t r f d = record {
-    fair = place-fair (r .table) t x f d;
-    grows = place-grows (r .table) t x f d;
-    still = λ e. let o = or-false (r .changed) (changes F (cellAt (r .table) t) x) e in (place-still (r .table) t x (o .1), o .0);
+    fair = metAt-fair (r .table) t x f d;
+    grows = metAt-grows (r .table) t x f d;
+    still = λ e. let o = or-false (r .changed) (changes F (cellAt (r .table) t) x) e in (metAt-still (r .table) t x (o .1), o .0);
   }
 
   pub putAll-on : (x : F .State) (ts : List ℕ) (r : Run (F .State)) → Fair (r .table) → ((t : ℕ) → Among t ts → Due t x) → On r (putAll F x ts r)
@@ -108,7 +108,7 @@ module _ (F : Flow) (L : Laws F) where
   putAll-has x (u ∷ ts) r f d t (inl e) =
       let h = put-on x u r f (d u (inl refl)) in
       let k = putAll-on x ts (put F x u r) (h .fair) (λ v i. d v (inr i)) in
-      cell-trans F L (holds x) (cellAt (put F x u r .table) t) (cellAt (putAll F x ts (put F x u r) .table) t) (rw e (place-has (r .table) u x f (d u (inl refl)))) (k .grows t)
+      cell-trans F L (holds x) (cellAt (put F x u r .table) t) (cellAt (putAll F x ts (put F x u r) .table) t) (rw e (metAt-has (r .table) u x f (d u (inl refl)))) (k .grows t)
   putAll-has x (u ∷ ts) r f d t (inr i) = putAll-has x ts (put F x u r) (put-on x u r f (d u (inl refl)) .fair) (λ v j. d v (inr j)) t i
 
   visitWith-on : (n : ℕ) (c : Cell (F .State)) (r : Run (F .State)) → cellAt (r .table) n ≡ c → Fair (r .table) → On r (visitWith F n c r)
@@ -235,3 +235,15 @@ module _ (F : Flow) (L : Laws F) where
   pub settle-tight : (f k : ℕ) (U : Table F) → settle F f ≡ settled k U → Tightest F U
   unfolding settle
   settle-tight f k U e = settleFrom-tight f zero (before F) true before-fair (λ q. absurd (true≢false q)) k U e
+
+  cell-both : (c d : Cell (F .State)) → CellOk F c → CellOk F d → CellBelow F c d → CellBelow F d c → c ≡ d
+  cell-both blank blank o p h k = refl
+  cell-both blank (holds b) o p h k = absurd k
+  cell-both (holds a) blank o p h k = absurd h
+  cell-both (holds a) (holds b) o p h k = ap holds (L .below-both a b o p h k)
+
+  -- There is one tightest table.
+  pub tightest-same : (T U : Table F) → Tightest F T → Tightest F U → T ≡ U
+  tightest-same T U t u =
+      ext-getD blank T U (t .passes .long ∙ sym (u .passes .long))
+      (λ n h. cell-both (cellAt T n) (cellAt U n) (t .passes .fine n) (u .passes .fine n) (t .least U (u .passes) n) (u .least T (t .passes) n))

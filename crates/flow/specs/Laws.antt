@@ -3,8 +3,8 @@
 -- passes bring to node n: for a step that keeps the order only from such states, and for facts that are to be carried along. Where
 -- neither is needed, `Real n` is `Ok`.
 use mathlib.Core.Path.{_≡_}
-use mathlib.Core.Bool.{true}
-use Prim.Native.Nat.{ℕ, _<_}
+use mathlib.Core.Bool.{true, false}
+use Prim.Native.Nat.{ℕ, _≤_, _<_}
 use Rattle.flow.specs.Flow.{Among, Flow}
 
 pub record Laws (F : Flow) : Type 1 where
@@ -17,8 +17,17 @@ pub record Laws (F : Flow) : Type 1 where
   pub real-meet : (n : ℕ) (a b : F .State) → Real n a → Real n b → Real n (F .meet a b)
   pub below-refl : (a : F .State) → F .Below a a
   pub below-trans : (a b c : F .State) → F .Below a b → F .Below b c → F .Below a c
+  -- two states of a table that allow the same are the same
+  pub below-both : (a b : F .State) → F .Ok a → F .Ok b → F .Below a b → F .Below b a → a ≡ b
   pub meet-left : (n : ℕ) (a b : F .State) → Real n a → Real n b → F .Below a (F .meet a b)
   pub meet-right : (n : ℕ) (a b : F .State) → Real n a → Real n b → F .Below b (F .meet a b)
   pub meet-least : (n : ℕ) (a b c : F .State) → Real n a → Real n b → F .Ok c → F .Below a c → F .Below b c → F .Below (F .meet a b) c
   pub monotone : (n : ℕ) (a b : F .State) → n < F .nodes → Real n a → F .Ok b → F .Below a b → F .Below (F .step n a) (F .step n b)
   pub same-yes : (a b : F .State) → F .same a b ≡ true → a ≡ b
+
+-- What it asks for passes to end: a height that no state exceeds, and that grows where a meeting changes a state.
+pub record Height (F : Flow) (L : Laws F) : Type 0 where
+  pub height : F .State → ℕ
+  pub bound : ℕ
+  pub bounded : (n : ℕ) (a : F .State) → L .Real n a → height a ≤ bound
+  pub grows : (n : ℕ) (a b : F .State) → L .Real n a → L .Real n b → F .same (F .meet a b) a ≡ false → height a < height (F .meet a b)

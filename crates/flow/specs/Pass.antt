@@ -27,12 +27,12 @@ module _ (F : Flow) where
   changes (holds b) a = not (F .same (F .meet b a) b)
 
   -- The step that every engine shares: a state met into what t holds.
-  unfoldable pub place : Table F → ℕ → F .State → Table F
-  place table t a = set table t (met (cellAt table t) a)
+  unfoldable pub metAt : Table F → ℕ → F .State → Table F
+  metAt table t a = set table t (met (cellAt table t) a)
 
   unfoldable pub put : F .State → ℕ → Run (F .State) → Run (F .State)
   put a t run =
-      record { table = place (run .table) t a; changed = run .changed || changes (cellAt (run .table) t) a }
+      record { table = metAt (run .table) t a; changed = run .changed || changes (cellAt (run .table) t) a }
 
   -- "met into the first target, then the second"
   unfoldable pub putAll : F .State → List ℕ → Run (F .State) → Run (F .State)

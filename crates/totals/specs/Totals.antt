@@ -9,17 +9,16 @@ use Rattle.lists.specs.Lists.{sumOf}
 use Rattle.chart.specs.declared.refusals.Refusal.{Refusal}
 use Rattle.chart.specs.declared.refusals.Refusal.the-variants.{ShortBuffer, NotPassing, BoundsLength, Costs, FloorAboveCeiling, FloorAtUnmarked}
 use Rattle.chart.specs.Refusals.{Said, refusalSays}
-use Rattle.chart.specs.Chart.{Chart, Read, accepted, refused, readChart}
+use Rattle.chart.specs.Chart.{Chart, Read, accepted, refused, readChart, touches}
 use Rattle.cache.specs.Ages.{Ages}
 use Rattle.flow.specs.Flow.{Cell, blank, holds, cellAt}
-use Rattle.analysis.specs.AgesFlow.{columns, placesAt}
 use Rattle.analysis.specs.Class.{hit, miss, classesOf}
 use Rattle.analysis.specs.Lent.{Lent, tableOf, tableShort}
 use Rattle.checker.specs.Checker.{passes, marked}
 use Rattle.totals.specs.declared.Totals.{Totals}
 use Rattle.totals.specs.declared.Totals.the-variants.{Between, Refused}
 
--- "The caller gives a hit cost and a miss cost, and a floor and a ceiling for each node"
+-- "The caller gives a hit cost and a miss cost, and a floor and a ceiling for each node, all 16 bits."
 pub record Prices : Type 0 where
   pub hitCost : ℕ
   pub missCost : ℕ
@@ -41,7 +40,7 @@ ratesOf rate (class ∷ classes) = rate class + ratesOf rate classes
 -- What one visit of a node counts, by the classes of its touches: nothing at an unmarked node or a bare step.
 abbrev pub visitCost : Chart → (ℕ → ℕ) → ℕ → Cell Ages → ℕ
 visitCost chart rate n blank = 0
-visitCost chart rate n (holds a) = ratesOf rate (classesOf (columns chart) (placesAt chart n) a)
+visitCost chart rate n (holds a) = ratesOf rate (classesOf chart (touches chart n) a)
 
 -- "adds, over marked references"
 unfoldable pub totalOf : Chart → Lent → (ℕ → ℕ) → List ℕ → ℕ
@@ -75,7 +74,7 @@ totalRules chart lent prices =
 
 -- This paper's number and values for each answer.
 abbrev pub totalsSay : Totals → Said
-totalsSay (Between low high) = record { number = 0; place = 0; passes = 0; blocks = 0; low = low; high = high }
+totalsSay (Between low high) = record { number = 0; place = 0; passes = 0; blocks = 0; yes = 0; low = low; high = high }
 totalsSay (Refused refusal) = refusalSays refusal
 
 abbrev pub totalRead : Lent → Prices → Read → Totals

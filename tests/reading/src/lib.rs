@@ -2,10 +2,10 @@
 //!
 //! Nothing here knows which values are allowed. That is in [`expected`], so that a test can build any damage it likes.
 
-pub mod damage;
 pub mod expected;
 pub mod program;
 pub mod random;
+pub mod random_charts;
 
 /// The header's fields in their order.
 #[derive(Clone, Copy, Debug, PartialEq)]
@@ -171,11 +171,7 @@ impl Chart {
 
     /// Document 01's sample: a step, a read that loops on itself, a read.
     pub fn sample() -> Chart {
-        Chart::of(vec![
-            Record::step().to(1),
-            Record::read(0).to(1).to(2),
-            Record::read(0),
-        ])
+        Chart::of(vec![Record::step().to(1), Record::read(0).to(1).to(2), Record::read(0)])
     }
 
     pub fn bytes(&self) -> Vec<u8> {
@@ -234,7 +230,10 @@ mod tests {
     #[test]
     #[should_panic(expected = "does not fit")]
     fn a_value_too_wide_for_its_field_is_not_packed() {
-        let header = Header { ways: 16, ..Header::of(1) };
+        let header = Header {
+            ways: 16,
+            ..Header::of(1)
+        };
         header.bytes();
     }
 }

@@ -27,7 +27,10 @@ pub fn command() -> Command {
 
 /// Pipes a command's three streams.
 pub fn piped(command: &mut Command) {
-    command.stdin(Stdio::piped()).stdout(Stdio::piped()).stderr(Stdio::piped());
+    command
+        .stdin(Stdio::piped())
+        .stdout(Stdio::piped())
+        .stderr(Stdio::piped());
 }
 
 /// Starts the program.
@@ -45,7 +48,11 @@ pub fn finish(mut child: Child) -> String {
     drop(child.stdin.take());
     let output = child.wait_with_output().expect("the program ends");
     let said = String::from_utf8_lossy(&output.stderr);
-    assert!(output.status.success() && said.is_empty(), "the program ended with {}: {said}", output.status);
+    assert!(
+        output.status.success() && said.is_empty(),
+        "the program ended with {}: {said}",
+        output.status
+    );
     String::from_utf8(output.stdout).expect("the program writes ASCII")
 }
 
@@ -69,20 +76,22 @@ pub fn ends(mut child: Child) -> bool {
     false
 }
 
-/// Bytes as hexadecimal digits, for `xxd -r -p`.
-pub fn hex(bytes: &[u8]) -> String {
-    bytes.iter().map(|byte| format!("{byte:02x}")).collect()
+/// An input for a failure's message: its size, and the bytes that the program takes as digits for `xxd -r -p`.
+fn shown(input: &[u8]) -> String {
+    let taken = &input[..input.len().min(expected::INPUT)];
+    let digits: String = taken.iter().map(|byte| format!("{byte:02x}")).collect();
+    format!("for the input of {} bytes, {digits}", input.len())
 }
 
 /// Holds the program to document 01 as [`expected`] reads it.
 pub fn agrees(input: &[u8]) {
     let line = expected::line(input);
-    assert_eq!(run(input), line + "\n", "for the input {}", hex(input));
+    assert_eq!(run(input), line + "\n", "{}", shown(input));
 }
 
 /// Holds both the program and [`expected`] to a line that a test has from document 01 itself.
 pub fn says(input: &[u8], line: &str) {
-    assert_eq!(expected::line(input), line, "in src/expected.rs, for the input {}", hex(input));
+    assert_eq!(expected::line(input), line, "in src/expected.rs, {}", shown(input));
     agrees(input);
 }
 

@@ -1,15 +1,15 @@
 -- Laws of the reader: the nodes' blocks gathered or one too many, the records' refusals, and the header's before them.
 use mathlib.Core.Bool.{Bool, true, false, cond}
-use mathlib.Core.List.{List, [], _∷_, _++_}
+use mathlib.Core.List.{List}
 use mathlib.Core.Path.{_≡_, refl, sym, ap, subst, _∙_}
 use Prim.Native.Nat.{ℕ, _+_, _*_, _-_, _≤_, _<_}
 use native.Mathlib.Omega.{arith}
 use borrow.Author.Tests.{lt-ltb, le-ltb, ltb-false, eqb-true, not-false}
 use lib.Dec.{ltb, eqb}
 use lib.ListN.{length, take}
-use Rattle.lists.specs.Choice.{Rule, _⇒_, firstRule, firstFrom, first}
+use Rattle.lists.specs.Choice.{Rule, firstRule, NoneApplies, firstFrom, first}
 use Rattle.lists.specs.Lists.{padded}
-use Rattle.lists.proofs.Choice.{NoneApplies, none-applies, first-found, first-ends}
+use Rattle.lists.proofs.Choice.{none-applies, first-otherwise, first-after, first-applies, applies-first, first-front, first-found, first-ends}
 use Rattle.chart.specs.declared.blocks.Gathered.{Gathered}
 use Rattle.chart.specs.declared.blocks.Gathered.the-variants.{Blocks, TooMany}
 use Rattle.chart.specs.declared.headers.Header.{Header}
@@ -20,7 +20,7 @@ use Rattle.chart.specs.declared.refusals.Refusal.{Refusal}
 use Rattle.chart.specs.declared.refusals.Refusal.the-variants.{BrokenRecord, TooManyBlocks}
 use Rattle.chart.specs.declared.shape.Geometry.{Geometry}
 use Rattle.chart.specs.Blocks.{insertAll, gathered, overfull, Laid}
-use Rattle.chart.specs.Chart.{Read, accepted, refused, chartOf, touchesAt, firstBroken, firstOverfull, recordRules, readChart}
+use Rattle.chart.specs.Chart.{Read, accepted, refused, chartOf, touchesAt, firstBroken, firstOverfull, recordRules, chartRules, readChart}
 use Rattle.chart.specs.Geometry.{mostBlocks}
 use Rattle.chart.specs.Header.{headerOf, headerRules, headerRead}
 use Rattle.chart.specs.Layout.{wordAt}
@@ -103,28 +103,13 @@ module _ (bytes : List ℕ) (header : Header) (broken : ℕ) (found : broken ≡
 
 -- ---- the header before them
 
-first-otherwise : {X Y : Type 0} (say : X → Y) (rules : List (Rule X)) (y : Y) → NoneApplies rules → firstRule say rules y ≡ y
-first-otherwise say [] y none = refl
-first-otherwise say ((test ⇒ answer) ∷ rules) y none = rw (none .0) (first-otherwise say rules y (none .1))
-
-first-after : {X Y : Type 0} (say : X → Y) (rules more : List (Rule X)) (y : Y) → NoneApplies rules → firstRule say (rules ++ more) y ≡ firstRule say more y
-first-after say [] more y none = refl
-first-after say ((test ⇒ answer) ∷ rules) more y none = rw (none .0) (first-after say rules more y (none .1))
-
-first-refused : (rules more : List (Rule Refusal)) (header : Header) (refusal : Refusal) (y : Read) → firstRule read.Refused rules (read.Accepted header) ≡ read.Refused refusal → firstRule refused (rules ++ more) y ≡ refused refusal
-first-refused [] more header refusal y e = let z : _≡_ {A = ℕ} 0 1 = cc in absurd (omega arith)
-first-refused ((test ⇒ answer) ∷ rules) more header refusal y e = go test e (first-refused rules more header refusal y)
-  where
-    go : (t : Bool) → cond t (read.Refused answer) (firstRule read.Refused rules (read.Accepted header)) ≡ read.Refused refusal
-        → (firstRule read.Refused rules (read.Accepted header) ≡ read.Refused refusal → firstRule refused (rules ++ more) y ≡ refused refusal)
-        → cond t (refused answer) (firstRule refused (rules ++ more) y) ≡ refused refusal
-    go true e rest = cc
-    go false e rest = rest e
-
 pub read-refuses : (bytes : List ℕ) (refusal : Refusal) → headerRead bytes ≡ read.Refused refusal → readChart bytes ≡ refused refusal
 unfolding headerRead readChart
 read-refuses bytes refusal e =
-    first-refused (headerRules bytes) (recordRules bytes (headerOf (wordAt bytes 0))) (headerOf (wordAt bytes 0)) refusal (accepted (chartOf bytes (headerOf (wordAt bytes 0)))) e
+    let rules : List (Rule Refusal) = headerRules bytes in
+    let first-one = applies-first read.Refused rules (read.Accepted (headerOf (wordAt bytes 0))) refusal (λ a b q. cc) (λ q. let z : _≡_ {A = ℕ} 0 1 = cc in omega arith) e in
+    first-applies refused (chartRules bytes) (accepted (chartOf bytes (headerOf (wordAt bytes 0)))) refusal
+    (first-front rules (recordRules bytes (headerOf (wordAt bytes 0))) refusal first-one)
 
 module _ (bytes : List ℕ) (header : Header) (taken : headerRead bytes ≡ read.Accepted header) where
   no-refusal : NoneApplies (headerRules bytes)

@@ -4,10 +4,10 @@
 use Prim.Native.Nat.{ℕ, _≤_, _<_}
 use mathlib.Core.Path.{_≡_}
 use mathlib.Core.Bool.{true, false}
-use mathlib.Core.List.{List, [], _∷_}
+use mathlib.Core.List.{List}
 use mathlib.Core.Logic.{_⊎_}
 use lib.ListN.{length, take}
-use Rattle.lists.specs.Choice.{Rule, _⇒_}
+use Rattle.lists.specs.Choice.{FirstApplies, NoneApplies}
 use Rattle.chart.specs.declared.refusals.Refusal.{Refusal}
 use Rattle.chart.specs.declared.refusals.Refusal.the-variants.{ShortBuffer, Unsettled}
 use Rattle.chart.specs.Geometry.{mostBlocks}
@@ -25,16 +25,6 @@ use Rattle.checker.specs.Checker.{checked, checkedSays}
 use Rattle.totals.specs.declared.Totals.the-variants.{Between}
 use Rattle.totals.specs.declared.Totals.the-variants.{Refused as TotalsRefused}
 use Rattle.totals.specs.Totals.{Prices, totalRules, lowTotal, highTotal, totals, totalsSay}
-
--- A rule of the list applies, and none before it.
-abbrev pub FirstApplies : List (Rule Refusal) → Refusal → Type 0
-FirstApplies [] refusal = ⊥
-FirstApplies ((test ⇒ answer) ∷ rules) refusal =
-    ((test ≡ true) × (answer ≡ refusal)) ⊎ ((test ≡ false) × FirstApplies rules refusal)
-
-abbrev pub NoneApplies : List (Rule Refusal) → Type 0
-NoneApplies [] = Unit {0}
-NoneApplies ((test ⇒ answer) ∷ rules) = (test ≡ false) × NoneApplies rules
 
 -- Each of so many passes changes something.
 abbrev pub AllChange : Chart → ℕ → Type 0

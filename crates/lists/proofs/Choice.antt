@@ -1,20 +1,17 @@
 -- Laws of the first rule that applies, of the first number that passes a test, and of `every`.
 use mathlib.Core.Bool.{Bool, true, false, cond, _&&_}
-use mathlib.Core.List.{List, [], _∷_}
-use mathlib.Core.Logic.{⊎-elim}
-use mathlib.Core.Path.{_≡_, refl, _∙_}
+use mathlib.Core.List.{List, [], _∷_, _++_}
+use mathlib.Core.Logic.{_⊎_, inl, inr, ⊎-elim}
+use mathlib.Core.Path.{_≡_, refl, ap, _∙_}
 use Prim.Native.Nat.{ℕ, zero, suc, _+_, _-_, _≤_, _<_}
 use native.Mathlib.Nat.{eq-or-lt-of-le, le-of-suc-le-suc}
 use native.Mathlib.Numerals.{add-one}
 use native.Mathlib.Omega.{arith}
-use Rattle.lists.specs.Choice.{Rule, _⇒_, firstRule, firstFrom, first, every}
+use borrow.Author.Tests.{ltb-false}
+use lib.Dec.{ltb}
+use Rattle.lists.specs.Choice.{Rule, _⇒_, firstRule, NoneApplies, FirstApplies, firstFrom, first, every}
 
 -- ---- the first rule
-
--- No rule of the list applies.
-abbrev pub NoneApplies : {X : Type 0} → List (Rule X) → Type 0
-NoneApplies [] = Unit {0}
-NoneApplies ((test ⇒ answer) ∷ rules) = (test ≡ false) × NoneApplies rules
 
 -- Where the whole answers what no rule says, none applies.
 pub none-applies : {X Y : Type 0} (say : X → Y) (rules : List (Rule X)) (y z : Y) → ((x : X) → say x ≡ z → ⊥) → firstRule say rules y ≡ z → NoneApplies rules
@@ -24,6 +21,37 @@ none-applies say ((test ⇒ answer) ∷ rules) y z never e = go test e (none-app
     go : (t : Bool) → cond t (say answer) (firstRule say rules y) ≡ z → (firstRule say rules y ≡ z → NoneApplies rules) → (t ≡ false) × NoneApplies rules
     go true e rest = absurd (never answer e)
     go false e rest = (refl, rest e)
+
+pub first-otherwise : {X Y : Type 0} (say : X → Y) (rules : List (Rule X)) (y : Y) → NoneApplies rules → firstRule say rules y ≡ y
+first-otherwise say [] y none = refl
+first-otherwise say ((test ⇒ answer) ∷ rules) y none = rw (none .0) (first-otherwise say rules y (none .1))
+
+pub first-after : {X Y : Type 0} (say : X → Y) (rules more : List (Rule X)) (y : Y) → NoneApplies rules → firstRule say (rules ++ more) y ≡ firstRule say more y
+first-after say [] more y none = refl
+first-after say ((test ⇒ answer) ∷ rules) more y none = rw (none .0) (first-after say rules more y (none .1))
+
+-- A rule that is the first to apply gives the answer, and an answer that a rule gives is the first's.
+pub first-applies : {X Y : Type 0} (say : X → Y) (rules : List (Rule X)) (y : Y) (x : X) → FirstApplies rules x → firstRule say rules y ≡ say x
+first-applies say [] y x f = absurd f
+first-applies say ((test ⇒ answer) ∷ rules) y x f = go test f (first-applies say rules y x)
+  where
+    go : (t : Bool) → ((t ≡ true) × (answer ≡ x)) ⊎ ((t ≡ false) × FirstApplies rules x) → (FirstApplies rules x → firstRule say rules y ≡ say x) → cond t (say answer) (firstRule say rules y) ≡ say x
+    go true (inl e) rest = ap say (e .1)
+    go true (inr e) rest = let z : _≡_ {A = ℕ} 0 1 = cc in absurd (omega arith)
+    go false (inl e) rest = let z : _≡_ {A = ℕ} 0 1 = cc in absurd (omega arith)
+    go false (inr e) rest = rest (e .1)
+
+pub applies-first : {X Y : Type 0} (say : X → Y) (rules : List (Rule X)) (y : Y) (x : X) → ((a b : X) → say a ≡ say b → a ≡ b) → (y ≡ say x → ⊥) → firstRule say rules y ≡ say x → FirstApplies rules x
+applies-first say [] y x apart never e = absurd (never e)
+applies-first say ((test ⇒ answer) ∷ rules) y x apart never e = go test e (applies-first say rules y x apart never)
+  where
+    go : (t : Bool) → cond t (say answer) (firstRule say rules y) ≡ say x → (firstRule say rules y ≡ say x → FirstApplies rules x) → ((t ≡ true) × (answer ≡ x)) ⊎ ((t ≡ false) × FirstApplies rules x)
+    go true e rest = inl (refl, apart answer x e)
+    go false e rest = inr (refl, rest e)
+
+pub first-front : {X : Type 0} (rules more : List (Rule X)) (x : X) → FirstApplies rules x → FirstApplies (rules ++ more) x
+first-front [] more x f = absurd f
+first-front ((test ⇒ answer) ∷ rules) more x f = ⊎-elim (λ e. inl e) (λ e. inr (e .0, first-front rules more x (e .1))) f
 
 -- ---- the first number that passes
 
@@ -42,6 +70,34 @@ first-found n k test h holds e = let s = first-step n k h in e ∙ (rw (s, holds
 
 pub first-ends : (n k : ℕ) (test : ℕ → Bool) → n ≤ k → first n test ≡ firstFrom k (n - k) test → first n test ≡ k
 first-ends n k test h e = let s : n - k ≡ 0 = omega arith in e ∙ (rw s)
+
+-- A search that finds none has tried all.
+tried : (k left : ℕ) (test : ℕ → Bool) → firstFrom k left test ≡ k + left → (i : ℕ) → i < left → test (k + i) ≡ false
+tried k zero test e i h = absurd (omega arith)
+tried k (suc left) test e i h = go (test k) refl i h (tried (suc k) left test)
+  where
+    go : (t : Bool) → test k ≡ t → (i : ℕ) → i < suc left → (firstFrom (suc k) left test ≡ suc k + left → (i : ℕ) → i < left → test (suc k + i) ≡ false) → test (k + i) ≡ false
+    go true q i h rest = let z : k ≡ k + suc left = (rw q at e) in absurd (omega arith)
+    go false q zero h rest = let z : k + 0 ≡ k = omega arith in rw z q
+    go false q (suc i) h rest =
+        let z : k + suc i ≡ suc k + i = omega arith in
+        let later : firstFrom (suc k) left test ≡ k + suc left = (rw q at e) in
+        rw z (rest (omega arith) i (omega arith))
+
+first-most : (k left : ℕ) (test : ℕ → Bool) → firstFrom k left test ≤ k + left
+first-most k zero test = omega arith
+first-most k (suc left) test = go (test k) (first-most (suc k) left test)
+  where
+    go : (t : Bool) → firstFrom (suc k) left test ≤ suc k + left → cond t k (firstFrom (suc k) left test) ≤ k + suc left
+    go true h = omega arith
+    go false h = omega arith
+
+pub none-passes : (n : ℕ) (test : ℕ → Bool) → ltb (first n test) n ≡ false → (i : ℕ) → i < n → test i ≡ false
+none-passes n test e i h =
+    let low = ltb-false (first n test) n e in
+    let high = first-most 0 n test in
+    let z : 0 + i ≡ i = omega arith in
+    rw z at (tried 0 n test (omega arith) i h)
 
 -- ---- every number
 

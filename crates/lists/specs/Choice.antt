@@ -1,6 +1,8 @@
 -- The first rule that applies, and the first number that passes a test.
 -- Document 01, "When the tool says no": "Checked in this order, the first that applies", "first such node".
-use mathlib.Core.Bool.{Bool, true, cond, _&&_}
+use mathlib.Core.Path.{_≡_}
+use mathlib.Core.Bool.{Bool, true, false, cond, _&&_}
+use mathlib.Core.Logic.{_⊎_}
 use mathlib.Core.List.{List, [], _∷_}
 use Prim.Native.Nat.{ℕ, zero, suc}
 
@@ -13,6 +15,17 @@ pub data Rule (X : Type 0) : Type 0 where
 abbrev pub firstRule : {X Y : Type 0} → (X → Y) → List (Rule X) → Y → Y
 firstRule say [] otherwise = otherwise
 firstRule say ((test ⇒ answer) ∷ rules) otherwise = cond test (say answer) (firstRule say rules otherwise)
+
+-- No rule of the list applies.
+abbrev pub NoneApplies : {X : Type 0} → List (Rule X) → Type 0
+NoneApplies [] = Unit {0}
+NoneApplies ((test ⇒ answer) ∷ rules) = (test ≡ false) × NoneApplies rules
+
+-- A rule that answers x applies, and none before it.
+abbrev pub FirstApplies : {X : Type 0} → List (Rule X) → X → Type 0
+FirstApplies [] x = ⊥
+FirstApplies ((test ⇒ answer) ∷ rules) x =
+    ((test ≡ true) × (answer ≡ x)) ⊎ ((test ≡ false) × FirstApplies rules x)
 
 -- The first of the `left` numbers from k on that passes the test; where none does, the number after them.
 abbrev pub firstFrom : ℕ → ℕ → (ℕ → Bool) → ℕ

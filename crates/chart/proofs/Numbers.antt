@@ -1,7 +1,10 @@
--- Laws of shifts and masks by a variable width.
+-- Laws of shifts and masks by a variable width, and of the bytes of a word.
 use mathlib.Core.Path.{_≡_}
-use Prim.Native.Nat.{ℕ, zero, _*_, _/_, _%_, _^_, _≤_, _<_}
-use native.Mathlib.Nat.{one-mul, mod-eq-of-lt, div-eq-of-lt, lt-of-lt-of-le}
+use Prim.Native.Nat.{ℕ, zero, _+_, _*_, _/_, _%_, _^_, _≤_, _<_}
+use mathlib.Core.List.{List}
+use native.Mathlib.Omega.{arith}
+use Rattle.chart.specs.Layout.{numberAt}
+use native.Mathlib.Nat.{add-assoc, one-mul, mod-eq-of-lt, div-eq-of-lt, lt-of-lt-of-le}
 use lib.Pow.{pow-pos, pow-mono, pow-lt}
 
 -- `1 << k` of a type of w bits
@@ -17,3 +20,7 @@ all-shifted-out w k n h s = div-eq-of-lt (lt-of-lt-of-le s (pow-mono h))
 
 pub none-masked : (w k n : ℕ) → w ≤ k → n < 2 ^ w → n % 2 ^ k ≡ n
 none-masked w k n h s = mod-eq-of-lt (lt-of-lt-of-le s (pow-mono h))
+
+-- Eight bytes are four and four more.
+pub two-halves : (bytes : List ℕ) (place : ℕ) → numberAt bytes place 4 * 4294967296 + numberAt bytes (place + 4) 4 ≡ numberAt bytes place 8
+two-halves bytes place = simp add-assoc (omega arith)

@@ -2,7 +2,7 @@
 ghost use mathlib.Core.Path.{_≡_};
 ghost use Prim.Native.Nat.{_+_, _*_, _/_, _%_, _^_, _≤_, _<_};
 ghost use lib.ListN.{length};
-ghost use Rattle.chart.specs.Layout.{wordAt};
+ghost use Rattle.chart.specs.Layout.{numberAt, wordAt};
 
 fn wide(byte: u8) -> u64
     ensures { λ r. ⌜ (r ≡ byte) × (r < 256) ⌝ }
@@ -10,21 +10,24 @@ fn wide(byte: u8) -> u64
     byte as u64
 }
 
-// The eight bytes from place 8n on, the first the most significant.
+// Four bytes from a place on, the first the most significant.
+fn half_at(chart: &[u8], place: usize) -> u64
+    requires { ⌜ place + 4 ≤ length (now chart) ⌝ }
+    ensures { λ r. ⌜ (r ≡ numberAt (now (chart .entry)) place 4) × (r < 4294967296) ⌝ }
+{
+    wide(chart[place]) * 16777216
+        + wide(chart[place + 1]) * 65536
+        + wide(chart[place + 2]) * 256
+        + wide(chart[place + 3])
+}
+
+// The eight bytes of word n, the first the most significant.
 pub fn word_at(chart: &[u8], n: usize) -> u64
     requires { ⌜ 8 * n + 8 ≤ length (now chart) ⌝ }
     ensures { λ r. ⌜ r ≡ wordAt (now (chart .entry)) n ⌝ }
 {
-    let at = 8 * n;
-    let high = wide(chart[at]) * 16777216
-        + wide(chart[at + 1]) * 65536
-        + wide(chart[at + 2]) * 256
-        + wide(chart[at + 3]);
-    let low = wide(chart[at + 4]) * 16777216
-        + wide(chart[at + 5]) * 65536
-        + wide(chart[at + 6]) * 256
-        + wide(chart[at + 7]);
-    high * 4294967296 + low
+    let place = 8 * n;
+    half_at(chart, place) * 4294967296 + half_at(chart, place + 4)
 }
 
 // The `width` bits of a word that have `behind` bits behind them.

@@ -63,8 +63,8 @@ pub fn run(input: &[u8]) -> String {
     finish(child)
 }
 
-/// Waits for a program that has ten seconds to end, and ends it if it does not.
-pub fn ends(mut child: Child) -> bool {
+/// Whether a started program ends within ten seconds; one that does not is ended.
+pub fn ends(child: &mut Child) -> bool {
     let last = Instant::now() + Duration::from_secs(10);
     while Instant::now() < last {
         if child.try_wait().expect("the program can be asked").is_some() {

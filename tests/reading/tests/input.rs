@@ -85,10 +85,8 @@ fn an_input_that_comes_in_uneven_parts_is_read_whole() {
 fn the_program_answers_after_2057_bytes_though_the_input_stays_open() {
     let mut child = start();
     hand(&mut child, &longest(2_057));
-    // the input is closed only after the program's end
-    let input = child.stdin.take();
+    assert!(ends(&mut child), "the program waits for more than 2,057 bytes");
     assert_eq!(finish(child), "refused 8 at 0\n");
-    drop(input);
 }
 
 #[test]
@@ -105,7 +103,7 @@ fn the_program_ends_when_nobody_reads_its_output() {
     hand(&mut child, &Chart::sample().bytes());
     drop(child.stdin.take());
     assert!(
-        ends(child),
+        ends(&mut child),
         "the program still runs ten seconds after its output was closed"
     );
 }
@@ -123,7 +121,7 @@ fn the_program_ends_when_nobody_reads_its_output_and_the_signal_is_ignored() {
     hand(&mut child, &Chart::sample().bytes());
     drop(child.stdin.take());
     assert!(
-        ends(child),
+        ends(&mut child),
         "the program still runs ten seconds after its output was closed"
     );
 }

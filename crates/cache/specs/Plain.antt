@@ -59,7 +59,7 @@ abbrev pub AllOf : (ℕ → ℕ) → ℕ → List ℕ → Type 0
 AllOf key set [] = Unit {0}
 AllOf key set (x ∷ l) = (key x ≡ set) × AllOf key set l
 
--- "Each set is a list of at most A different blocks of that set." "Start "unknown" means any lists of this form, also of blocks not
+-- "Each set is a list of at most A different blocks of that set, youngest first." "Start "unknown" means any lists of this form, also of blocks not
 -- in the chart."
 pub record Formed (ways key : ℕ → ℕ) (cache : Cache) : Type 0 where
   pub short : (set : ℕ) → length (cache set) ≤ ways set

@@ -13,6 +13,8 @@ use Rattle.chart.specs.Header.{headerOf}
 use Rattle.chart.specs.Geometry.{mostNodes, mostBlocks}
 use Rattle.chart.specs.Blocks.{overfull, gathered}
 use Rattle.chart.specs.Chart.{Chart, accepted, refused, chartOf, chartRules, readChart, blockCount, firstOverfull, touchesAt}
+use Rattle.chart.specs.Reading.{readingOf}
+use Rattle.chart.proofs.Reader.{read-refuses}
 use Rattle.analysis.specs.Analysis.{analysed}
 use Rattle.checker.specs.Checker.{checked}
 use Rattle.totals.specs.Totals.{totals}
@@ -43,11 +45,13 @@ few bytes chart e =
     rw (← accepted-is bytes chart e) (rw all at most)
 
 pub reading-refusals : ReadingRefusals
-unfolding readChart analysed checked totals
+unfolding readChart readingOf analysed checked totals
 reading-refusals =
     record {
       given = λ bytes refusal f. first-applies refused (chartRules bytes) (accepted (chartOf bytes (headerOf (wordAt bytes 0)))) refusal f;
       only = λ bytes refusal e. applies-first refused (chartRules bytes) (accepted (chartOf bytes (headerOf (wordAt bytes 0)))) refusal (λ a b q. cc) (λ q. let z : _≡_ {A = ℕ} 0 1 = cc in omega arith) e;
+      to-header = read-refuses;
+      to-reader = λ bytes refusal e. rw e;
       to-analysis = λ bytes refusal allowance lent e. rw e;
       to-checker = λ bytes refusal table e. rw e;
       to-totals = λ bytes refusal table prices e. rw e;

@@ -7,6 +7,7 @@ use Rattle.chart.specs.Layout.{wordAt}
 use Rattle.chart.specs.Geometry.{blockOf, setOf, shapeAllowed}
 use Rattle.chart.specs.Record.{recordKeeps, recordOf, arrowsOf, touchesOf}
 use Rattle.chart.specs.Blocks.{gathered, overfull, placeIn}
+use Rattle.chart.specs.Reading.{readingOf}
 use Rattle.chart.specs.Chart.{firstBroken, firstOverfull, accepted, readChart, arrows}
 use Rattle.cache.specs.Plain.{has, without, touchSet, hits, touch}
 use Rattle.cache.specs.Ages.{mustGrown, mayGrown, mustAfter, mayAfter, sameAges, touchAges, meetAges, startAges}
@@ -20,12 +21,12 @@ use Rattle.report.specs.Report.{longest, report}
 use Rattle.totals.specs.Totals.{totalOf, totals}
 use Rattle.demands.specs.Charts.{loopChart, loopReport}
 use Rattle.demands.specs.Soundings.{Sounding, starred, loop, tenTurns}
-use Rattle.demands.specs.Refused.{damaged}
+use Rattle.demands.specs.Refused.{damaged, unanalysed, untotalled}
 use Rattle.demands.specs.Mistakes.{right, mistaken}
 
 -- All that has to be seen through for a definition to compute.
 everything : Unit {0}
-unfolding wordAt blockOf setOf shapeAllowed recordKeeps recordOf arrowsOf touchesOf gathered overfull placeIn firstBroken firstOverfull readChart has without touchSet hits touch mustGrown mayGrown mustAfter mayAfter sameAges touchAges meetAges startAges met changes metAt put putAll visitWith visit visits pass before settleFrom settle classOf finish analysed passes totalOf totals report
+unfolding readingOf wordAt blockOf setOf shapeAllowed recordKeeps recordOf arrowsOf touchesOf gathered overfull placeIn firstBroken firstOverfull readChart has without touchSet hits touch mustGrown mayGrown mustAfter mayAfter sameAges touchAges meetAges startAges met changes metAt put putAll visitWith visit visits pass before settleFrom settle classOf finish analysed passes totalOf totals report
 everything = tt
 
 -- Every sounding of a list gives what is wanted.
@@ -53,9 +54,18 @@ sample-report = refl
 pub program-numbers : (longest ≡ 2056) × (allPasses ≡ 262401)
 program-numbers = (refl, refl)
 
+-- Every refusal but 10.
 pub damaged-hold : Hold damaged
 unfolding everything
 damaged-hold = refl
+
+pub unanalysed-hold : Hold unanalysed
+unfolding everything
+unanalysed-hold = refl
+
+pub untotalled-hold : Hold untotalled
+unfolding everything
+untotalled-hold = refl
 
 pub right-hold : Hold right
 unfolding everything

@@ -10,7 +10,11 @@ use lib.ListN.{length, take}
 use Rattle.lists.specs.Choice.{FirstApplies, NoneApplies}
 use Rattle.chart.specs.declared.refusals.Refusal.{Refusal}
 use Rattle.chart.specs.declared.refusals.Refusal.the-variants.{ShortBuffer, Unsettled}
+use Rattle.chart.specs.declared.headers.HeaderRead.the-variants.{Refused as HeaderRefused}
+use Rattle.chart.specs.declared.readings.Verdict.the-variants.{Refused as ReaderRefused}
 use Rattle.chart.specs.Geometry.{mostBlocks}
+use Rattle.chart.specs.Header.{headerRead, headerSays}
+use Rattle.chart.specs.Reading.{reading, verdictSays}
 use Rattle.chart.specs.Chart.{Chart, accepted, refused, readChart, chartRules, blockCount}
 use Rattle.chart.specs.Refusals.{numberOf, refusalWith, refusalSays}
 use Rattle.flow.specs.Pass.{pass, afterPasses}
@@ -46,10 +50,14 @@ pub record SameUsed (chart : Chart) (one other : Lent) : Type 0 where
   pub one-long : tableShort chart one ≡ false
   pub other-long : tableShort chart other ≡ false
 
--- Refusals 1 to 10: when they are given, and that every function gives them and leaves its buffers as they were.
+-- Refusals 1 to 10: when they are given, that each of the five functions gives them, and that the analysis then leaves its buffers as
+-- they were.
 pub record ReadingRefusals : Type 0 where
   pub given : (bytes : List ℕ) (refusal : Refusal) → FirstApplies (chartRules bytes) refusal → readChart bytes ≡ refused refusal
   pub only : (bytes : List ℕ) (refusal : Refusal) → readChart bytes ≡ refused refusal → FirstApplies (chartRules bytes) refusal
+  -- reading the header alone gives 1 to 8 as reading the whole does
+  pub to-header : (bytes : List ℕ) (refusal : Refusal) → headerRead bytes ≡ HeaderRefused refusal → readChart bytes ≡ refused refusal
+  pub to-reader : (bytes : List ℕ) (refusal : Refusal) → readChart bytes ≡ refused refusal → reading bytes .verdict ≡ ReaderRefused refusal
   pub to-analysis : (bytes : List ℕ) (refusal : Refusal) (allowance : ℕ) (lent : Buffers) → readChart bytes ≡ refused refusal → analysed bytes allowance lent ≡ refuse lent refusal
   pub to-checker : (bytes : List ℕ) (refusal : Refusal) (table : Lent) → readChart bytes ≡ refused refusal → checked bytes table ≡ CheckerRefused refusal
   pub to-totals : (bytes : List ℕ) (refusal : Refusal) (table : Lent) (prices : Prices) → readChart bytes ≡ refused refusal → totals bytes table prices ≡ TotalsRefused refusal
@@ -73,11 +81,13 @@ pub record TotalsRefusals (bytes : List ℕ) (chart : Chart) (table : Lent) (pri
   pub sums : NoneApplies (totalRules chart table prices) → totals bytes table prices ≡ Between (lowTotal chart table prices) (highTotal chart table prices)
 
 pub record Demand1 : Type 0 where
-  pub reading : ReadingRefusals
+  pub readings : ReadingRefusals
   pub analysis : (bytes : List ℕ) (chart : Chart) (allowance : ℕ) (lent : Buffers) → readChart bytes ≡ accepted chart → AnalysisRefusals bytes chart allowance lent
   pub checker : (bytes : List ℕ) (chart : Chart) (table : Lent) → readChart bytes ≡ accepted chart → CheckerRefusals bytes chart table
   pub totalling : (bytes : List ℕ) (chart : Chart) (table : Lent) (prices : Prices) → readChart bytes ≡ accepted chart → TotalsRefusals bytes chart table prices
   -- "The analysis uses 1 to 12", "the checker uses 1 to 11", "the totals use 1 to 11 and 13 to 17"
+  pub header-numbers : (bytes : List ℕ) → headerSays (headerRead bytes) .number ≤ 8
+  pub reading-numbers : (bytes : List ℕ) → verdictSays (reading bytes .verdict) .number ≤ 10
   pub analysis-numbers : (bytes : List ℕ) (allowance : ℕ) (lent : Buffers) → analysedSays (analysed bytes allowance lent .answer) .number ≤ 12
   pub checker-numbers : (bytes : List ℕ) (table : Lent) → checkedSays (checked bytes table) .number ≤ 11
   pub totals-numbers : (bytes : List ℕ) (table : Lent) (prices : Prices) → (totalsSay (totals bytes table prices) .number ≤ 17) × (totalsSay (totals bytes table prices) .number ≡ 12 → ⊥)

@@ -4,7 +4,7 @@
 use Prim.Native.Nat.{ℕ, _≤_, _<_}
 use mathlib.Core.Path.{_≡_}
 use mathlib.Core.Bool.{true, false}
-use mathlib.Core.List.{List, _∷_}
+use mathlib.Core.List.{List, [], _∷_}
 use lib.ListN.{getD, length}
 use Rattle.chart.specs.Chart.{Chart, accepted, readChart, arrows, touches, blockCount}
 use Rattle.cache.specs.Ages.{Ages, ageOf}
@@ -13,7 +13,7 @@ use Rattle.flow.specs.Flow.{cellAt}
 use Rattle.flow.specs.Passing.{Marked}
 use Rattle.flow.specs.Walk.{Walk, visitsOf, AtTouches}
 use Rattle.analysis.specs.AgesFlow.{touched}
-use Rattle.analysis.specs.Class.{hit, miss, classOf}
+use Rattle.analysis.specs.Class.{hit, miss, classOf, nodeClass}
 use Rattle.analysis.specs.Lent.{Lent, agesAt, tableOf, TablePasses}
 use Rattle.totals.specs.declared.Totals.the-variants.{Between}
 use Rattle.totals.specs.Totals.{Prices, lowTotal, highTotal, totals}
@@ -31,7 +31,10 @@ pub record SaysTrue (chart : Chart) (table : Lent) (n : ℕ) (cache : Cache) : T
   -- "a must age (upper bound, 0 to A) and a may age (lower bound, 0 to A)"
   pub must-above : (column : ℕ) → column < blockCount chart → ageWith chart cache (getD (chart .blocks) column 0) ≤ ageOf (agesAt chart table n .must) column
   pub may-below : (column : ℕ) → column < blockCount chart → ageOf (agesAt chart table n .may) column ≤ ageWith chart cache (getD (chart .blocks) column 0)
-  -- each touch of the node, in turn
+  -- the class of the node, as it is written and printed: a node called a hit hits, one called a miss misses
+  pub node-hit : (block : ℕ) → touches chart n ≡ block ∷ [] → nodeClass chart n (cellAt (tableOf chart table) n) ≡ hit → plainMachine chart .finds block cache ≡ true
+  pub node-miss : (block : ℕ) → touches chart n ≡ block ∷ [] → nodeClass chart n (cellAt (tableOf chart table) n) ≡ miss → plainMachine chart .finds block cache ≡ false
+  -- and each touch of the node, in turn
   pub called-right : AtTouches (touched chart) (plainMachine chart .act) (CalledRight chart) (touches chart n) (agesAt chart table n) cache
 
 -- "visits lie between floors and ceilings"

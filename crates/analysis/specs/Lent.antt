@@ -49,7 +49,10 @@ pub record TablePasses (chart : Chart) (lent : Lent) : Type 0 where
   -- "marks are 0 or 1"
   pub marks-plain : (n : ℕ) → n < chart .header .nodes → getD (lent .marks) n 0 ≤ 1
   -- "the rows of unmarked nodes are all 0"
-  pub unmarked-zero : (n : ℕ) → n < chart .header .nodes → getD (lent .marks) n 0 ≡ 0 → agesAt chart lent n ≡ record { must = replicate (blockCount chart) 0; may = replicate (blockCount chart) 0 }
+  pub unmarked-zero : (n : ℕ)
+      → n < chart .header .nodes
+      → getD (lent .marks) n 0 ≡ 0
+      → agesAt chart lent n ≡ record { must = replicate (blockCount chart) 0; may = replicate (blockCount chart) 0 }
   -- the ages, the entry, and each arrow
   pub equations : Passing (agesFlow chart) (tableOf chart lent)
 

@@ -1,4 +1,4 @@
--- What the reader answers for any bytes.
+-- What the reader answers for any bytes. Document 01, "When the tool says no" (rows 1 to 10) and "Pinning it down".
 use mathlib.Core.Path.{_≡_}
 use mathlib.Core.Bool.{cond, false}
 use mathlib.Core.List.{List}

@@ -58,17 +58,27 @@ pub record ReadingRefusals : Type 0 where
   -- reading the header alone gives 1 to 8 as reading the whole does
   pub to-header : (bytes : List ℕ) (refusal : Refusal) → headerRead bytes ≡ HeaderRefused refusal → readChart bytes ≡ refused refusal
   pub to-reader : (bytes : List ℕ) (refusal : Refusal) → readChart bytes ≡ refused refusal → reading bytes .verdict ≡ ReaderRefused refusal
-  pub to-analysis : (bytes : List ℕ) (refusal : Refusal) (allowance : ℕ) (lent : Buffers) → readChart bytes ≡ refused refusal → analysed bytes allowance lent ≡ refuse lent refusal
-  pub to-checker : (bytes : List ℕ) (refusal : Refusal) (table : Lent) → readChart bytes ≡ refused refusal → checked bytes table ≡ CheckerRefused refusal
-  pub to-totals : (bytes : List ℕ) (refusal : Refusal) (table : Lent) (prices : Prices) → readChart bytes ≡ refused refusal → totals bytes table prices ≡ TotalsRefused refusal
+  pub to-analysis : (bytes : List ℕ) (refusal : Refusal) (allowance : ℕ) (lent : Buffers)
+      → readChart bytes ≡ refused refusal
+      → analysed bytes allowance lent ≡ refuse lent refusal
+  pub to-checker : (bytes : List ℕ) (refusal : Refusal) (table : Lent)
+      → readChart bytes ≡ refused refusal
+      → checked bytes table ≡ CheckerRefused refusal
+  pub to-totals : (bytes : List ℕ) (refusal : Refusal) (table : Lent) (prices : Prices)
+      → readChart bytes ≡ refused refusal
+      → totals bytes table prices ≡ TotalsRefused refusal
   -- "There may be 0 to 64 of them."
   pub few-blocks : (bytes : List ℕ) (chart : Chart) → readChart bytes ≡ accepted chart → blockCount chart ≤ mostBlocks
 
 -- The analysis of an accepted chart: 11 if a buffer is short; else 12 if every pass that is allowed changes something; else it settles.
 pub record AnalysisRefusals (bytes : List ℕ) (chart : Chart) (allowance : ℕ) (lent : Buffers) : Type 0 where
   pub short : buffersShort chart lent ≡ true → analysed bytes allowance lent ≡ refuse lent ShortBuffer
-  pub unsettled : buffersShort chart lent ≡ false → AllChange chart allowance → analysed bytes allowance lent ≡ record { answer = AnalysisRefused (Unsettled allowance (blockCount chart)); buffers = filledByZeros chart lent }
-  pub settled : buffersShort chart lent ≡ false → (AllChange chart allowance → ⊥) → (passes : ℕ) × (analysed bytes allowance lent .answer ≡ Settled passes (blockCount chart))
+  pub unsettled : buffersShort chart lent ≡ false
+      → AllChange chart allowance
+      → analysed bytes allowance lent ≡ record { answer = AnalysisRefused (Unsettled allowance (blockCount chart)); buffers = filledByZeros chart lent }
+  pub settled : buffersShort chart lent ≡ false
+      → (AllChange chart allowance → ⊥)
+      → (passes : ℕ) × (analysed bytes allowance lent .answer ≡ Settled passes (blockCount chart))
 
 -- The checker of an accepted chart's table: 11 if it is short, else yes or no.
 pub record CheckerRefusals (bytes : List ℕ) (chart : Chart) (table : Lent) : Type 0 where
@@ -78,19 +88,25 @@ pub record CheckerRefusals (bytes : List ℕ) (chart : Chart) (table : Lent) : T
 -- The totals of an accepted chart: the first of 11 and 13 to 17 that applies, else the two sums.
 pub record TotalsRefusals (bytes : List ℕ) (chart : Chart) (table : Lent) (prices : Prices) : Type 0 where
   pub given : (refusal : Refusal) → FirstApplies (totalRules chart table prices) refusal → totals bytes table prices ≡ TotalsRefused refusal
-  pub sums : NoneApplies (totalRules chart table prices) → totals bytes table prices ≡ Between (lowTotal chart table prices) (highTotal chart table prices)
+  pub sums : NoneApplies (totalRules chart table prices)
+      → totals bytes table prices ≡ Between (lowTotal chart table prices) (highTotal chart table prices)
 
 pub record Demand1 : Type 0 where
   pub readings : ReadingRefusals
-  pub analysis : (bytes : List ℕ) (chart : Chart) (allowance : ℕ) (lent : Buffers) → readChart bytes ≡ accepted chart → AnalysisRefusals bytes chart allowance lent
+  pub analysis : (bytes : List ℕ) (chart : Chart) (allowance : ℕ) (lent : Buffers)
+      → readChart bytes ≡ accepted chart
+      → AnalysisRefusals bytes chart allowance lent
   pub checker : (bytes : List ℕ) (chart : Chart) (table : Lent) → readChart bytes ≡ accepted chart → CheckerRefusals bytes chart table
-  pub totalling : (bytes : List ℕ) (chart : Chart) (table : Lent) (prices : Prices) → readChart bytes ≡ accepted chart → TotalsRefusals bytes chart table prices
+  pub totalling : (bytes : List ℕ) (chart : Chart) (table : Lent) (prices : Prices)
+      → readChart bytes ≡ accepted chart
+      → TotalsRefusals bytes chart table prices
   -- "The analysis uses 1 to 12", "the checker uses 1 to 11", "the totals use 1 to 11 and 13 to 17"
   pub header-numbers : (bytes : List ℕ) → headerSays (headerRead bytes) .number ≤ 8
   pub reading-numbers : (bytes : List ℕ) → verdictSays (reading bytes .verdict) .number ≤ 10
   pub analysis-numbers : (bytes : List ℕ) (allowance : ℕ) (lent : Buffers) → analysedSays (analysed bytes allowance lent .answer) .number ≤ 12
   pub checker-numbers : (bytes : List ℕ) (table : Lent) → checkedSays (checked bytes table) .number ≤ 11
-  pub totals-numbers : (bytes : List ℕ) (table : Lent) (prices : Prices) → (totalsSay (totals bytes table prices) .number ≤ 17) × (totalsSay (totals bytes table prices) .number ≡ 12 → ⊥)
+  pub totals-numbers : (bytes : List ℕ) (table : Lent) (prices : Prices)
+      → (totalsSay (totals bytes table prices) .number ≤ 17) × (totalsSay (totals bytes table prices) .number ≡ 12 → ⊥)
   -- "Every refusal returns its number and place, with pass count, block count and totals 0, save that 12 also returns the allowance
   -- and B."
   pub refusal-values : (refusal : Refusal) → (numberOf refusal ≡ 12 → ⊥) → refusalSays refusal ≡ refusalWith 0 0 refusal
@@ -98,5 +114,11 @@ pub record Demand1 : Type 0 where
   -- no buffer grows or shrinks
   pub same-lengths : (bytes : List ℕ) (allowance : ℕ) (lent : Buffers) → SameLengths lent (analysed bytes allowance lent .buffers)
   -- "Both read only the used parts of a lent table"
-  pub checker-used : (bytes : List ℕ) (chart : Chart) (one other : Lent) → readChart bytes ≡ accepted chart → SameUsed chart one other → checked bytes one ≡ checked bytes other
-  pub totals-used : (bytes : List ℕ) (chart : Chart) (one other : Lent) (prices : Prices) → readChart bytes ≡ accepted chart → SameUsed chart one other → totals bytes one prices ≡ totals bytes other prices
+  pub checker-used : (bytes : List ℕ) (chart : Chart) (one other : Lent)
+      → readChart bytes ≡ accepted chart
+      → SameUsed chart one other
+      → checked bytes one ≡ checked bytes other
+  pub totals-used : (bytes : List ℕ) (chart : Chart) (one other : Lent) (prices : Prices)
+      → readChart bytes ≡ accepted chart
+      → SameUsed chart one other
+      → totals bytes one prices ≡ totals bytes other prices

@@ -41,14 +41,34 @@ pub record Settles (chart : Chart) (passes blocks : ℕ) (lent left : Buffers) :
 
 pub record Demand2 : Type 0 where
   -- the checker says yes exactly if the table passes
-  pub checker-yes : (bytes : List ℕ) (chart : Chart) (table : Lent) → readChart bytes ≡ accepted chart → checkedSays (checked bytes table) .yes ≡ 1 → TablePasses chart table
-  pub yes-checker : (bytes : List ℕ) (chart : Chart) (table : Lent) → readChart bytes ≡ accepted chart → TablePasses chart table → checkedSays (checked bytes table) .yes ≡ 1
+  pub checker-yes : (bytes : List ℕ) (chart : Chart) (table : Lent)
+      → readChart bytes ≡ accepted chart
+      → checkedSays (checked bytes table) .yes ≡ 1
+      → TablePasses chart table
+  pub yes-checker : (bytes : List ℕ) (chart : Chart) (table : Lent)
+      → readChart bytes ≡ accepted chart
+      → TablePasses chart table
+      → checkedSays (checked bytes table) .yes ≡ 1
   -- an analysis that settles leaves the tightest table, which the checker passes
-  pub settled : (bytes : List ℕ) (chart : Chart) (allowance passes blocks : ℕ) (lent : Buffers) → readChart bytes ≡ accepted chart → analysed bytes allowance lent .answer ≡ Settled passes blocks → Settles chart passes blocks lent (analysed bytes allowance lent .buffers)
-  pub settled-yes : (bytes : List ℕ) (allowance passes blocks : ℕ) (lent : Buffers) → analysed bytes allowance lent .answer ≡ Settled passes blocks → checkedSays (checked bytes (tableIn (analysed bytes allowance lent .buffers))) .yes ≡ 1
+  pub settled : (bytes : List ℕ) (chart : Chart) (allowance passes blocks : ℕ) (lent : Buffers)
+      → readChart bytes ≡ accepted chart
+      → analysed bytes allowance lent .answer ≡ Settled passes blocks
+      → Settles chart passes blocks lent (analysed bytes allowance lent .buffers)
+  pub settled-yes : (bytes : List ℕ) (allowance passes blocks : ℕ) (lent : Buffers)
+      → analysed bytes allowance lent .answer ≡ Settled passes blocks
+      → checkedSays (checked bytes (tableIn (analysed bytes allowance lent .buffers))) .yes ≡ 1
   -- an accepted chart with room settles within every allowance of at least N(1 + 2BA) + 1 passes
-  pub enough : (bytes : List ℕ) (chart : Chart) (allowance : ℕ) (lent : Buffers) → readChart bytes ≡ accepted chart → buffersShort chart lent ≡ false → mostPasses chart ≤ allowance → (passes : ℕ) × (analysed bytes allowance lent .answer ≡ Settled passes (blockCount chart))
+  pub enough : (bytes : List ℕ) (chart : Chart) (allowance : ℕ) (lent : Buffers)
+      → readChart bytes ≡ accepted chart
+      → buffersShort chart lent ≡ false
+      → mostPasses chart ≤ allowance
+      → (passes : ℕ) × (analysed bytes allowance lent .answer ≡ Settled passes (blockCount chart))
   -- so the program, which allows 262,401 and has room for the largest chart, reports every accepted chart
-  pub program-settles : (input : List ℕ) (chart : Chart) → readChart (taken input) ≡ accepted chart → (passes : ℕ) × (analysed (taken input) allPasses (zeroBuffers mostNodes mostBlocks) .answer ≡ Settled passes (blockCount chart))
+  pub program-settles : (input : List ℕ) (chart : Chart)
+      → readChart (taken input) ≡ accepted chart
+      → (passes : ℕ) × (analysed (taken input) allPasses (zeroBuffers mostNodes mostBlocks) .answer ≡ Settled passes (blockCount chart))
   -- two allowances within which it settles agree in everything
-  pub agree : (bytes : List ℕ) (one other passes passes′ blocks blocks′ : ℕ) (lent : Buffers) → analysed bytes one lent .answer ≡ Settled passes blocks → analysed bytes other lent .answer ≡ Settled passes′ blocks′ → analysed bytes one lent ≡ analysed bytes other lent
+  pub agree : (bytes : List ℕ) (one other passes passes′ blocks blocks′ : ℕ) (lent : Buffers)
+      → analysed bytes one lent .answer ≡ Settled passes blocks
+      → analysed bytes other lent .answer ≡ Settled passes′ blocks′
+      → analysed bytes one lent ≡ analysed bytes other lent

@@ -29,24 +29,50 @@ pub record CalledRight (chart : Chart) (block : ℕ) (a : Ages) (cache : Cache) 
 pub record SaysTrue (chart : Chart) (table : Lent) (n : ℕ) (cache : Cache) : Type 0 where
   pub marked : Marked (cellAt (tableOf chart table) n)
   -- "a must age (upper bound, 0 to A) and a may age (lower bound, 0 to A)"
-  pub must-above : (column : ℕ) → column < blockCount chart → ageWith chart cache (getD (chart .blocks) column 0) ≤ ageOf (agesAt chart table n .must) column
-  pub may-below : (column : ℕ) → column < blockCount chart → ageOf (agesAt chart table n .may) column ≤ ageWith chart cache (getD (chart .blocks) column 0)
+  pub must-above : (column : ℕ)
+      → column < blockCount chart
+      → ageWith chart cache (getD (chart .blocks) column 0) ≤ ageOf (agesAt chart table n .must) column
+  pub may-below : (column : ℕ)
+      → column < blockCount chart
+      → ageOf (agesAt chart table n .may) column ≤ ageWith chart cache (getD (chart .blocks) column 0)
   -- the class of the node, as it is written and printed: a node called a hit hits, one called a miss misses
-  pub node-hit : (block : ℕ) → touches chart n ≡ block ∷ [] → nodeClass chart n (cellAt (tableOf chart table) n) ≡ hit → plainMachine chart .finds block cache ≡ true
-  pub node-miss : (block : ℕ) → touches chart n ≡ block ∷ [] → nodeClass chart n (cellAt (tableOf chart table) n) ≡ miss → plainMachine chart .finds block cache ≡ false
+  pub node-hit : (block : ℕ)
+      → touches chart n ≡ block ∷ []
+      → nodeClass chart n (cellAt (tableOf chart table) n) ≡ hit
+      → plainMachine chart .finds block cache ≡ true
+  pub node-miss : (block : ℕ)
+      → touches chart n ≡ block ∷ []
+      → nodeClass chart n (cellAt (tableOf chart table) n) ≡ miss
+      → plainMachine chart .finds block cache ≡ false
   -- and each touch of the node, in turn
   pub called-right : AtTouches (touched chart) (plainMachine chart .act) (CalledRight chart) (touches chart n) (agesAt chart table n) cache
 
--- "visits lie between floors and ceilings"
-abbrev pub VisitsWithin : Chart → Prices → List ℕ → Type 0
-VisitsWithin chart prices ts = (n : ℕ) → n < chart .header .nodes → (getD (prices .floors) n 0 ≤ visitsOf n (chart .header .entry ∷ ts)) × (visitsOf n (chart .header .entry ∷ ts) ≤ getD (prices .ceilings) n 0)
+-- A chart that the bytes read as, a table that passes, starting contents that the chart allows, and a walk.
+pub record OnWalk (bytes : List ℕ) (chart : Chart) (table : Lent) (cache : Cache) (ts : List ℕ) : Type 0 where
+  pub read : readChart bytes ≡ accepted chart
+  pub passes : TablePasses chart table
+  pub begins : Begins chart cache
+  pub walk : Walk (arrows chart) (chart .header .entry) ts
 
--- The totals are given, and the cost lies between them.
+-- A floor and a ceiling for each node; "a miss costs at least a hit"; "visits lie between floors and ceilings".
+pub record Within (chart : Chart) (prices : Prices) (ts : List ℕ) : Type 0 where
+  pub floors-long : length (prices .floors) ≡ chart .header .nodes
+  pub ceilings-long : length (prices .ceilings) ≡ chart .header .nodes
+  pub costs : prices .hitCost ≤ prices .missCost
+  pub no-less : (n : ℕ) → n < chart .header .nodes → getD (prices .floors) n 0 ≤ visitsOf n (chart .header .entry ∷ ts)
+  pub no-more : (n : ℕ) → n < chart .header .nodes → visitsOf n (chart .header .entry ∷ ts) ≤ getD (prices .ceilings) n 0
+
+-- The totals are given, and the cost that the machine counts lies between them.
 pub record CostBetween (bytes : List ℕ) (chart : Chart) (table : Lent) (prices : Prices) (ts : List ℕ) (cache : Cache) : Type 0 where
   pub given : totals bytes table prices ≡ Between (lowTotal chart table prices) (highTotal chart table prices)
   pub low : lowTotal chart table prices ≤ costOf chart (prices .hitCost) (prices .missCost) ts cache
   pub high : costOf chart (prices .hitCost) (prices .missCost) ts cache ≤ highTotal chart table prices
 
 pub record Demand3 : Type 0 where
-  pub says-true : (bytes : List ℕ) (chart : Chart) (table : Lent) → readChart bytes ≡ accepted chart → TablePasses chart table → (cache : Cache) → Begins chart cache → (ts : List ℕ) → Walk (arrows chart) (chart .header .entry) ts → SaysTrue chart table (lastNode chart ts) (contentsAfter chart ts cache)
-  pub cost-between : (bytes : List ℕ) (chart : Chart) (table : Lent) (prices : Prices) → readChart bytes ≡ accepted chart → TablePasses chart table → length (prices .floors) ≡ chart .header .nodes → length (prices .ceilings) ≡ chart .header .nodes → prices .hitCost ≤ prices .missCost → (cache : Cache) → Begins chart cache → (ts : List ℕ) → Walk (arrows chart) (chart .header .entry) ts → VisitsWithin chart prices ts → CostBetween bytes chart table prices ts cache
+  pub says-true : (bytes : List ℕ) (chart : Chart) (table : Lent) (cache : Cache) (ts : List ℕ)
+      → OnWalk bytes chart table cache ts
+      → SaysTrue chart table (lastNode chart ts) (contentsAfter chart ts cache)
+  pub cost-between : (bytes : List ℕ) (chart : Chart) (table : Lent) (prices : Prices) (cache : Cache) (ts : List ℕ)
+      → OnWalk bytes chart table cache ts
+      → Within chart prices ts
+      → CostBetween bytes chart table prices ts cache

@@ -55,7 +55,7 @@ pub record OnWalk (bytes : List ℕ) (chart : Chart) (table : Lent) (cache : Cac
   pub walk : Walk (arrows chart) (chart .header .entry) ts
 
 -- A floor and a ceiling for each node; "a miss costs at least a hit"; "visits lie between floors and ceilings".
-pub record Within (chart : Chart) (prices : Prices) (ts : List ℕ) : Type 0 where
+pub record VisitsWithin (chart : Chart) (prices : Prices) (ts : List ℕ) : Type 0 where
   pub floors-long : length (prices .floors) ≡ chart .header .nodes
   pub ceilings-long : length (prices .ceilings) ≡ chart .header .nodes
   pub costs : prices .hitCost ≤ prices .missCost
@@ -74,5 +74,5 @@ pub record Demand3 : Type 0 where
       → SaysTrue chart table (lastNode chart ts) (contentsAfter chart ts cache)
   pub cost-between : (bytes : List ℕ) (chart : Chart) (table : Lent) (prices : Prices) (cache : Cache) (ts : List ℕ)
       → OnWalk bytes chart table cache ts
-      → Within chart prices ts
+      → VisitsWithin chart prices ts
       → CostBetween bytes chart table prices ts cache

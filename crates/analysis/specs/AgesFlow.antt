@@ -32,22 +32,27 @@ abbrev pub isEmpty : Start → Bool
 isEmpty Unknown = false
 isEmpty Empty = true
 
--- The state after a node's record: its touches in turn; "Bare step: nothing changes." "The entry also meets the start": before pass one
--- it has the start, and what its arrows bring is met into that.
-abbrev pub agesFlow : Chart → Flow
-agesFlow chart =
+-- Ages that start and step so, met and compared over the chart's columns.
+abbrev pub flowBy : Chart → Ages → (ℕ → Ages → Ages) → Flow
+flowBy chart start step =
     record {
       State = Ages;
       nodes = chart .header .nodes;
       entry = chart .header .entry;
       arrows = arrows chart;
-      start = startAges (columns chart) (isEmpty (chart .header .start));
-      step = λ n a. inTurn (touched chart) (touches chart n) a;
+      start = start;
+      step = step;
       meet = meetAges (columns chart);
       same = sameAges;
       Ok = Within (columns chart);
       Below = Tighter (columns chart);
     }
+
+-- The state after a node's record: its touches in turn; "Bare step: nothing changes." "The entry also meets the start": before pass one
+-- it has the start, and what its arrows bring is met into that.
+abbrev pub agesFlow : Chart → Flow
+agesFlow chart =
+    flowBy chart (startAges (columns chart) (isEmpty (chart .header .start))) (λ n a. inTurn (touched chart) (touches chart n) a)
 
 -- "It is at most N(1 + 2BA) + 1 with B blocks; for 256 nodes, 64 blocks and 8 ways that is 262,401."
 abbrev pub passesFor : ℕ → ℕ → ℕ → ℕ

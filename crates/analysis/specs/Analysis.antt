@@ -9,7 +9,7 @@ use Rattle.lists.specs.Choice.{_⇒_, firstRule}
 use Rattle.lists.specs.Lists.{written}
 use Rattle.chart.specs.declared.refusals.Refusal.{Refusal}
 use Rattle.chart.specs.declared.refusals.Refusal.the-variants.{ShortBuffer, Unsettled}
-use Rattle.chart.specs.Refusals.{Said, refusalSays}
+use Rattle.chart.specs.Refusals.{Said, answerWith, refusalSays}
 use Rattle.chart.specs.Chart.{Chart, Read, accepted, refused, readChart, blockCount}
 use Rattle.cache.specs.Ages.{Ages}
 use Rattle.flow.specs.Flow.{Cell}
@@ -35,7 +35,7 @@ pub record Left : Type 0 where
 
 -- This paper's number and values for each answer.
 abbrev pub analysedSays : Analysed → Said
-analysedSays (Settled passes blocks) = record { number = 0; place = 0; passes = passes; blocks = blocks; yes = 0; low = 0; high = 0 }
+analysedSays (Settled passes blocks) = answerWith passes blocks 0 0 0
 analysedSays (Refused refusal) = refusalSays refusal
 
 abbrev pub tableIn : Buffers → Lent

@@ -10,7 +10,8 @@ use lib.ListN.{length, getD, take, drop, replicate, length-append, length-take, 
 use lib.Seq.{paste, getD-take, length-take-le, take-append-le, drop-append-le, take-at, drop-append-add}
 use Rattle.lists.specs.Lists.{padded}
 use Rattle.lists.proofs.Lists.{length-padded, getD-padded}
-use Rattle.chart.specs.Blocks.{insert, insertAll, gathered, overfull, placeIn, Ascending, Listing, Laid}
+use Rattle.chart.specs.Blocks.{insert, insertAll, gathered, overfull, placeIn}
+use Rattle.chart.specs.Inner.{Ascending, Listing, Laid}
 use Rattle.chart.proofs.Search.{place-le}
 use Rattle.chart.proofs.Insertion.{insert-there, insert-new, asc-gathered}
 

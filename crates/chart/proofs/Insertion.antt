@@ -6,7 +6,8 @@ use Prim.Native.Nat.{ℕ, zero, suc, _≤_, _<_}
 use native.Mathlib.Omega.{arith}
 use borrow.Author.Tests.{lt-ltb, le-ltb, eq-eqb, ne-eqb}
 use lib.ListN.{length, getD, take, drop}
-use Rattle.chart.specs.Blocks.{insert, insertAll, gathered, placeIn, Ascending}
+use Rattle.chart.specs.Blocks.{insert, insertAll, gathered, placeIn}
+use Rattle.chart.specs.Inner.{Ascending}
 use Rattle.lists.proofs.Orders.{below-or, at-most}
 use Rattle.chart.proofs.Search.{place-nil, place-here, place-past}
 

@@ -19,13 +19,15 @@ use Rattle.chart.specs.declared.records.Record.{Record}
 use Rattle.chart.specs.declared.refusals.Refusal.{Refusal}
 use Rattle.chart.specs.declared.refusals.Refusal.the-variants.{BrokenRecord, TooManyBlocks}
 use Rattle.chart.specs.declared.shape.Geometry.{Geometry}
-use Rattle.chart.specs.Blocks.{insertAll, gathered, overfull, Laid}
-use Rattle.chart.specs.Chart.{Read, accepted, refused, chartOf, touchesAt, firstBroken, firstOverfull, recordRules, chartRules, readChart}
+use Rattle.chart.specs.Blocks.{insertAll, gathered, overfull}
+use Rattle.chart.specs.Inner.{Laid}
+use Rattle.chart.specs.Chart.{Read, accepted, refused, chartOf, chartIn, touchesAt, firstBroken, firstOverfull, recordRules, chartRules, readChart}
 use Rattle.chart.specs.Geometry.{mostBlocks}
-use Rattle.chart.specs.Header.{headerOf, headerRules, headerRead}
+use Rattle.chart.specs.Header.{headerIn, headerRules, headerRead}
 use Rattle.chart.specs.Layout.{wordAt}
 use Rattle.chart.specs.Record.{recordOf, touchesOf}
-use Rattle.chart.specs.Reading.{readingOf, Gathers}
+use Rattle.chart.specs.Reading.{readingOf}
+use Rattle.chart.specs.Inner.{Gathers}
 use Rattle.chart.proofs.Arrays.{gather-more}
 
 -- ---- the blocks of all nodes, or the first node that brings one too many
@@ -107,28 +109,28 @@ pub read-refuses : (bytes : List ℕ) (refusal : Refusal) → headerRead bytes �
 unfolding headerRead readChart
 read-refuses bytes refusal e =
     let rules : List (Rule Refusal) = headerRules bytes in
-    let first-one = applies-first read.Refused rules (read.Accepted (headerOf (wordAt bytes 0))) refusal (λ a b q. cc) (λ q. let z : _≡_ {A = ℕ} 0 1 = cc in omega arith) e in
-    first-applies refused (chartRules bytes) (accepted (chartOf bytes (headerOf (wordAt bytes 0)))) refusal
-    (first-front rules (recordRules bytes (headerOf (wordAt bytes 0))) refusal first-one)
+    let first-one = applies-first read.Refused rules (read.Accepted (headerIn bytes)) refusal (λ a b q. cc) (λ q. let z : _≡_ {A = ℕ} 0 1 = cc in omega arith) e in
+    first-applies refused (chartRules bytes) (accepted (chartIn bytes)) refusal
+    (first-front rules (recordRules bytes (headerIn bytes)) refusal first-one)
 
 module _ (bytes : List ℕ) (header : Header) (taken : headerRead bytes ≡ read.Accepted header) where
   no-refusal : NoneApplies (headerRules bytes)
   unfolding headerRead
-  no-refusal = none-applies read.Refused (headerRules bytes) (read.Accepted (headerOf (wordAt bytes 0))) (read.Accepted header) (λ x q. let z : _≡_ {A = ℕ} 0 1 = cc in omega arith) taken
+  no-refusal = none-applies read.Refused (headerRules bytes) (read.Accepted (headerIn bytes)) (read.Accepted header) (λ x q. let z : _≡_ {A = ℕ} 0 1 = cc in omega arith) taken
 
-  header-is : headerOf (wordAt bytes 0) ≡ header
+  header-is : headerIn bytes ≡ header
   unfolding headerRead
   header-is =
-      let e : read.Accepted (headerOf (wordAt bytes 0)) ≡ read.Accepted header = sym (first-otherwise read.Refused (headerRules bytes) (read.Accepted (headerOf (wordAt bytes 0))) no-refusal) ∙ taken in
+      let e : read.Accepted (headerIn bytes) ≡ read.Accepted header = sym (first-otherwise read.Refused (headerRules bytes) (read.Accepted (headerIn bytes)) no-refusal) ∙ taken in
       cc
 
   pub read-length : length bytes ≡ 8 + 8 * header .nodes
   read-length =
-      let n : (length bytes ≡ 8 + 8 * headerOf (wordAt bytes 0) .nodes) = eqb-true (length bytes) (8 + 8 * headerOf (wordAt bytes 0) .nodes) (not-false (eqb (length bytes) (8 + 8 * headerOf (wordAt bytes 0) .nodes)) (no-refusal .1 .1 .1 .1 .1 .1 .1 .0)) in
+      let n : (length bytes ≡ 8 + 8 * headerIn bytes .nodes) = eqb-true (length bytes) (8 + 8 * headerIn bytes .nodes) (not-false (eqb (length bytes) (8 + 8 * headerIn bytes .nodes)) (no-refusal .1 .1 .1 .1 .1 .1 .1 .0)) in
       n ∙ ap (λ (h : Header). 8 + 8 * h .nodes) header-is
 
   pub read-accepts : readChart bytes ≡ recordsRead bytes header
   unfolding readChart
   read-accepts =
-      first-after refused (headerRules bytes) (recordRules bytes (headerOf (wordAt bytes 0))) (accepted (chartOf bytes (headerOf (wordAt bytes 0)))) no-refusal
+      first-after refused (headerRules bytes) (recordRules bytes (headerIn bytes)) (accepted (chartIn bytes)) no-refusal
       ∙ ap (recordsRead bytes) header-is

@@ -12,9 +12,9 @@ use Rattle.chart.specs.declared.records.NodeRead.{NodeRead}
 use Rattle.chart.specs.declared.records.NodeRead.the-variants.{Found, Missing}
 use Rattle.chart.specs.declared.refusals.Refusal.{Refusal}
 use Rattle.chart.specs.declared.refusals.Refusal.the-variants.{BrokenRecord, TooManyBlocks}
-use Rattle.chart.specs.Layout.{wordAt, recordWord, chartLength}
+use Rattle.chart.specs.Layout.{recordWord, chartLength}
 use Rattle.chart.specs.Geometry.{mostBlocks}
-use Rattle.chart.specs.Header.{headerOf, headerRules}
+use Rattle.chart.specs.Header.{headerIn, headerRules}
 use Rattle.chart.specs.Record.{recordKeeps, nodeOf, arrowsOf, touchesOf}
 use Rattle.chart.specs.Blocks.{gathered, overfull}
 
@@ -43,6 +43,10 @@ chartOf bytes header =
       blocks = gathered (touchesAt (header .geometry) bytes) (header .nodes);
     }
 
+-- The chart that bytes hold, where none of the rules below refuses them.
+abbrev pub chartIn : List ℕ → Chart
+chartIn bytes = chartOf bytes (headerIn bytes)
+
 -- Rows 9 and 10, each with "first such node" and "node bringing the 65th, in node order".
 abbrev pub brokenAt : List ℕ → ℕ → ℕ → Bool
 brokenAt bytes nodes n = not (recordKeeps nodes (recordWord bytes n))
@@ -61,7 +65,7 @@ recordRules bytes header =
 
 -- Rows 1 to 10.
 abbrev pub chartRules : List ℕ → List (Rule Refusal)
-chartRules bytes = headerRules bytes ++ recordRules bytes (headerOf (wordAt bytes 0))
+chartRules bytes = headerRules bytes ++ recordRules bytes (headerIn bytes)
 
 -- What any bytes read as.
 pub data Read : Type 0 where
@@ -69,7 +73,7 @@ pub data Read : Type 0 where
   refused : Refusal → Read
 
 unfoldable pub readChart : List ℕ → Read
-readChart bytes = firstRule refused (chartRules bytes) (accepted (chartOf bytes (headerOf (wordAt bytes 0))))
+readChart bytes = firstRule refused (chartRules bytes) (accepted (chartIn bytes))
 
 -- Of an accepted chart: where a node's arrows lead, and the blocks that it touches, in turn.
 abbrev pub arrows : Chart → ℕ → List ℕ

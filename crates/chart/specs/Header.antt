@@ -14,7 +14,7 @@ use Rattle.chart.specs.declared.headers.HeaderRead.{HeaderRead}
 use Rattle.chart.specs.declared.headers.HeaderRead.the-variants.{Accepted, Refused}
 use Rattle.chart.specs.declared.refusals.Refusal.{Refusal}
 use Rattle.chart.specs.declared.refusals.Refusal.the-variants.{TooShort, Edition, Shape, StartCode, NodeCount, EntryNode, SpareBits, Length}
-use Rattle.chart.specs.Refusals.{Said, refusalSays}
+use Rattle.chart.specs.Refusals.{Said, answerWith, refusalSays}
 use Rattle.chart.specs.Layout.{wordAt, chartLength, field, headerWidths}
 use Rattle.chart.specs.Geometry.{mostNodes, between, shapeAllowed}
 
@@ -54,6 +54,10 @@ headerOf word =
       entry = entryNode word;
     }
 
+-- The header that bytes begin with.
+abbrev pub headerIn : List ℕ → Header
+headerIn bytes = headerOf (wordAt bytes 0)
+
 -- Rows 2 to 8 of the table, of a chart with this first word and of this length.
 abbrev pub wordRules : ℕ → ℕ → List (Rule Refusal)
 wordRules word size =
@@ -72,9 +76,9 @@ headerRules bytes = (ltb (length bytes) 8 ⇒ TooShort) ∷ wordRules (wordAt by
 
 -- What reading the header of any bytes answers.
 unfoldable pub headerRead : List ℕ → HeaderRead
-headerRead bytes = firstRule Refused (headerRules bytes) (Accepted (headerOf (wordAt bytes 0)))
+headerRead bytes = firstRule Refused (headerRules bytes) (Accepted (headerIn bytes))
 
 -- This paper's number and values for each answer.
 abbrev pub headerSays : HeaderRead → Said
-headerSays (Accepted header) = record { number = 0; place = 0; passes = 0; blocks = 0; yes = 0; low = 0; high = 0 }
+headerSays (Accepted header) = answerWith 0 0 0 0 0
 headerSays (Refused refusal) = refusalSays refusal

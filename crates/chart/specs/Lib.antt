@@ -6,3 +6,4 @@ pub mod Record
 pub mod Blocks
 pub mod Chart
 pub mod Reading
+pub mod Inner

@@ -53,6 +53,11 @@ pub record Said : Type 0 where
   pub low : ℕ
   pub high : ℕ
 
+-- An answer that is no refusal.
+abbrev pub answerWith : (passes blocks answer low high : ℕ) → Said
+answerWith passes blocks answer low high =
+    record { number = 0; place = 0; passes = passes; blocks = blocks; yes = answer; low = low; high = high }
+
 -- "Every refusal returns its number and place, with pass count, block count and totals 0,
 -- save that 12 also returns the allowance and B."
 abbrev pub refusalWith : ℕ → ℕ → Refusal → Said

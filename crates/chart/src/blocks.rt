@@ -1,15 +1,15 @@
 // The blocks of a chart, in ascending order.
 ghost use mathlib.Core.Path.{_≡_};
 ghost use mathlib.Core.List.{[], _∷_};
-ghost use Prim.Native.Nat.{_+_, _-_, _*_, _≤_, _<_};
+ghost use Prim.Native.Nat.{_+_, _-_, _≤_, _<_};
 ghost use lib.ListN.{length, take, drop};
 ghost use lib.Seq.{paste};
 ghost use Rattle.lists.specs.Lists.{padded};
 ghost use Rattle.chart.specs.Geometry.{mostBlocks};
 ghost use Rattle.chart.specs.Layout.{chartLength};
 ghost use Rattle.chart.specs.Record.{touchesOf};
-ghost use Rattle.chart.specs.Blocks.{Ascending, placeIn, insert, insertAll, Listing, Laid};
-ghost use Rattle.chart.specs.Reading.{Gathers};
+ghost use Rattle.chart.specs.Blocks.{placeIn, insert, insertAll};
+ghost use Rattle.chart.specs.Inner.{Ascending, Listing, Laid, Gathers};
 use crate::records::Record;
 use crate::records::record_of;
 use crate::shape::Geometry;
@@ -22,7 +22,7 @@ pub enum Gathered {
 }
 
 // The place of a block among the first `count` of an ascending list: the first that is not below it, or `count`.
-pub fn place_in(blocks: &[u32], count: usize, block: u32) -> usize
+pub(crate) fn place_in(blocks: &[u32], count: usize, block: u32) -> usize
     requires { ⌜ count ≤ length (now blocks) ⌝ }
     requires { ⌜ Ascending count (now blocks) ⌝ }
     ensures { λ r. ⌜ r ≡ placeIn (take count (now (blocks .entry))) block ⌝ }
@@ -82,7 +82,7 @@ fn put_record(blocks: &mut [u32], count: usize, geometry: Geometry, what: Record
 }
 
 // Gathers the blocks of all nodes into an array of zeros: what it holds after `TooMany` is not said.
-pub fn gather(chart: &[u8], geometry: Geometry, nodes: usize, blocks: &mut [u32]) -> Gathered
+pub(crate) fn gather(chart: &[u8], geometry: Geometry, nodes: usize, blocks: &mut [u32]) -> Gathered
     requires { ⌜ chartLength nodes ≤ length (now chart) ⌝ }
     requires { ⌜ now blocks ≡ padded mostBlocks [] ⌝ }
     ensures { λ r. ⌜ Gathers (now (chart .entry)) geometry nodes r (now (blocks .exit)) ⌝ }

@@ -1,6 +1,5 @@
 // The reader as a whole.
 ghost use mathlib.Core.Path.{_≡_};
-ghost use Prim.Native.Nat.{_+_, _*_};
 ghost use lib.ListN.{length};
 ghost use Rattle.lists.specs.Choice.{firstRule};
 ghost use Rattle.chart.specs.Layout.{chartLength};

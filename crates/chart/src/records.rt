@@ -1,6 +1,6 @@
 // A node's record: what it does, where its arrows lead, and whether it keeps its rules.
 ghost use mathlib.Core.Path.{_≡_};
-ghost use Prim.Native.Nat.{_+_, _*_, _≤_};
+ghost use Prim.Native.Nat.{_+_, _≤_};
 ghost use lib.ListN.{length};
 ghost use Rattle.chart.specs.Layout.{chartLength};
 ghost use Rattle.chart.specs.Record.{arrowKeeps, recordKeeps, recordOf, nodeOf};
@@ -32,7 +32,7 @@ pub enum NodeRead {
 }
 
 // What the record in a word does.
-pub fn record_of(word: u64) -> Record
+pub(crate) fn record_of(word: u64) -> Record
     ensures { λ r. ⌜ r ≡ recordOf word ⌝ }
 {
     let kind = bits(word, 62, 2);
@@ -46,7 +46,7 @@ pub fn record_of(word: u64) -> Record
 }
 
 // The node whose record is in a word.
-pub fn node_of(word: u64) -> Node
+fn node_of(word: u64) -> Node
     ensures { λ r. ⌜ r ≡ nodeOf word ⌝ }
 {
     Node {
@@ -92,7 +92,7 @@ fn record_keeps(nodes: usize, word: u64) -> bool
 }
 
 // The first node whose record breaks its rules, or `nodes`.
-pub fn first_broken(chart: &[u8], nodes: usize) -> usize
+pub(crate) fn first_broken(chart: &[u8], nodes: usize) -> usize
     requires { ⌜ chartLength nodes ≤ length (now chart) ⌝ }
     ensures { λ r. ⌜ r ≡ firstBroken (now (chart .entry)) nodes ⌝ }
 {

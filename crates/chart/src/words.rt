@@ -22,7 +22,7 @@ fn half_at(chart: &[u8], place: usize) -> u64
 }
 
 // The eight bytes of word n, the first the most significant.
-pub fn word_at(chart: &[u8], n: usize) -> u64
+pub(crate) fn word_at(chart: &[u8], n: usize) -> u64
     requires { ⌜ 8 * n + 8 ≤ length (now chart) ⌝ }
     ensures { λ r. ⌜ r ≡ wordAt (now (chart .entry)) n ⌝ }
 {
@@ -31,7 +31,7 @@ pub fn word_at(chart: &[u8], n: usize) -> u64
 }
 
 // The `width` bits of a word that have `behind` bits behind them.
-pub fn bits(word: u64, behind: u32, width: u32) -> u64
+pub(crate) fn bits(word: u64, behind: u32, width: u32) -> u64
     requires { ⌜ (behind < 64) × (width < 64) ⌝ }
     ensures { λ r. ⌜ r ≡ word / 2 ^ behind % 2 ^ width ⌝ }
 {

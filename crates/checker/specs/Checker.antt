@@ -7,7 +7,7 @@ use lib.ListN.{getD}
 use lib.Dec.{leb, eqb}
 use Rattle.lists.specs.Choice.{_⇒_, firstRule, every}
 use Rattle.chart.specs.declared.refusals.Refusal.the-variants.{ShortBuffer}
-use Rattle.chart.specs.Refusals.{Said, refusalSays}
+use Rattle.chart.specs.Refusals.{Said, answerWith, refusalSays}
 use Rattle.chart.specs.Chart.{Chart, Read, accepted, refused, readChart, arrows, blockCount}
 use Rattle.cache.specs.Ages.{Ages, ageOf}
 use Rattle.analysis.specs.AgesFlow.{agesFlow, columns}
@@ -68,8 +68,8 @@ module _ (chart : Chart) (lent : Lent) where
 
 -- This paper's number and values for each answer.
 abbrev pub checkedSays : Checked → Said
-checkedSays Passes = record { number = 0; place = 0; passes = 0; blocks = 0; yes = 1; low = 0; high = 0 }
-checkedSays Fails = record { number = 0; place = 0; passes = 0; blocks = 0; yes = 0; low = 0; high = 0 }
+checkedSays Passes = answerWith 0 0 1 0 0
+checkedSays Fails = answerWith 0 0 0 0 0
 checkedSays (Refused refusal) = refusalSays refusal
 
 abbrev pub checkRead : Lent → Read → Checked

@@ -8,11 +8,10 @@ use lib.Dec.{leb}
 use lib.ListN.{length}
 use Rattle.lists.specs.Choice.{NoneApplies}
 use Rattle.lists.proofs.Choice.{none-applies, first-otherwise, first-applies, applies-first, none-passes, and-true}
-use Rattle.chart.specs.Layout.{wordAt}
-use Rattle.chart.specs.Header.{headerOf}
+use Rattle.chart.specs.Header.{headerIn}
 use Rattle.chart.specs.Geometry.{mostNodes, mostBlocks}
 use Rattle.chart.specs.Blocks.{overfull, gathered}
-use Rattle.chart.specs.Chart.{Chart, accepted, refused, chartOf, chartRules, readChart, blockCount, firstOverfull, touchesAt}
+use Rattle.chart.specs.Chart.{Chart, accepted, refused, chartIn, chartRules, readChart, blockCount, firstOverfull, touchesAt}
 use Rattle.chart.specs.Reading.{readingOf}
 use Rattle.chart.proofs.Reader.{read-refuses}
 use Rattle.analysis.specs.Analysis.{analysed}
@@ -23,19 +22,19 @@ use Rattle.demands.specs.Demand1.{ReadingRefusals}
 accepted-none : (bytes : List ℕ) (chart : Chart) → readChart bytes ≡ accepted chart → NoneApplies (chartRules bytes)
 unfolding readChart
 accepted-none bytes chart e =
-    none-applies refused (chartRules bytes) (accepted (chartOf bytes (headerOf (wordAt bytes 0)))) (accepted chart) (λ x q. let z : _≡_ {A = ℕ} 0 1 = cc in omega arith) e
+    none-applies refused (chartRules bytes) (accepted (chartIn bytes)) (accepted chart) (λ x q. let z : _≡_ {A = ℕ} 0 1 = cc in omega arith) e
 
-accepted-is : (bytes : List ℕ) (chart : Chart) → readChart bytes ≡ accepted chart → chartOf bytes (headerOf (wordAt bytes 0)) ≡ chart
+accepted-is : (bytes : List ℕ) (chart : Chart) → readChart bytes ≡ accepted chart → chartIn bytes ≡ chart
 unfolding readChart
 accepted-is bytes chart e =
-    let same : accepted (chartOf bytes (headerOf (wordAt bytes 0))) ≡ accepted chart = sym (first-otherwise refused (chartRules bytes) (accepted (chartOf bytes (headerOf (wordAt bytes 0)))) (accepted-none bytes chart e)) ∙ e in
+    let same : accepted (chartIn bytes) ≡ accepted chart = sym (first-otherwise refused (chartRules bytes) (accepted (chartIn bytes)) (accepted-none bytes chart e)) ∙ e in
     cc
 
 -- "There may be 0 to 64 of them": the last of the nodes, of which there is one at least, does not bring too many.
 few : (bytes : List ℕ) (chart : Chart) → readChart bytes ≡ accepted chart → blockCount chart ≤ mostBlocks
 unfolding firstOverfull overfull
 few bytes chart e =
-    let header = headerOf (wordAt bytes 0) in
+    let header = headerIn bytes in
     let none = accepted-none bytes chart e in
     let counted = and-true (leb 1 (header .nodes)) (leb (header .nodes) mostNodes) (not-false _ (none .1 .1 .1 .1 .0)) in
     let some = leb-true 1 (header .nodes) (counted .0) in
@@ -48,8 +47,8 @@ pub reading-refusals : ReadingRefusals
 unfolding readChart readingOf analysed checked totals
 reading-refusals =
     record {
-      given = λ bytes refusal f. first-applies refused (chartRules bytes) (accepted (chartOf bytes (headerOf (wordAt bytes 0)))) refusal f;
-      only = λ bytes refusal e. applies-first refused (chartRules bytes) (accepted (chartOf bytes (headerOf (wordAt bytes 0)))) refusal (λ a b q. cc) (λ q. let z : _≡_ {A = ℕ} 0 1 = cc in omega arith) e;
+      given = λ bytes refusal f. first-applies refused (chartRules bytes) (accepted (chartIn bytes)) refusal f;
+      only = λ bytes refusal e. applies-first refused (chartRules bytes) (accepted (chartIn bytes)) refusal (λ a b q. cc) (λ q. let z : _≡_ {A = ℕ} 0 1 = cc in omega arith) e;
       to-header = read-refuses;
       to-reader = λ bytes refusal e. rw e;
       to-analysis = λ bytes refusal allowance lent e. rw e;

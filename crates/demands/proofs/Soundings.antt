@@ -21,7 +21,7 @@ use Rattle.report.specs.Report.{longest, report}
 use Rattle.totals.specs.Totals.{totalOf, totals}
 use Rattle.demands.specs.Charts.{loopChart, loopReport}
 use Rattle.demands.specs.Soundings.{Sounding, starred, loop, tenTurns}
-use Rattle.demands.specs.Refused.{damaged, unanalysed, untotalled}
+use Rattle.demands.specs.Refused.{refusals}
 use Rattle.demands.specs.Mistakes.{right, mistaken}
 
 -- All that has to be seen through for a definition to compute.
@@ -55,17 +55,9 @@ pub program-numbers : (longest ≡ 2056) × (allPasses ≡ 262401)
 program-numbers = (refl, refl)
 
 -- Every refusal but 10.
-pub damaged-hold : Hold damaged
+pub refusals-hold : Hold refusals
 unfolding everything
-damaged-hold = refl
-
-pub unanalysed-hold : Hold unanalysed
-unfolding everything
-unanalysed-hold = refl
-
-pub untotalled-hold : Hold untotalled
-unfolding everything
-untotalled-hold = refl
+refusals-hold = refl
 
 pub right-hold : Hold right
 unfolding everything

@@ -6,36 +6,15 @@ use mathlib.Core.List.{List, [], _∷_}
 use lib.ListN.{replicate}
 use lib.Dec.{eqb, ltb, leb}
 use Rattle.lists.specs.Lists.{listOf}
-use Rattle.chart.specs.Layout.{wordAt}
-use Rattle.chart.specs.Header.{headerOf}
-use Rattle.chart.specs.Chart.{Chart, chartOf, arrows, blockCount}
-use Rattle.cache.specs.Ages.{Columns, Ages, ageOf, meetAges, startAges, sameAges, Within, Tighter}
-use Rattle.flow.specs.Flow.{Flow}
+use Rattle.chart.specs.Chart.{Chart, chartIn, blockCount}
+use Rattle.cache.specs.Ages.{Ages, ageOf, meetAges, startAges}
 use Rattle.flow.specs.Pass.{Outcome, settled, spent, settle}
-use Rattle.analysis.specs.AgesFlow.{columns, agesFlow, allPasses}
+use Rattle.analysis.specs.AgesFlow.{columns, flowBy, agesFlow, allPasses}
 use Rattle.analysis.specs.Class.{tableClasses}
 use Rattle.demands.specs.Charts.{oneSetTwoWaysEmpty, oneSetTwoWays, twoSetsOneWay, straightChart, entryLoopChart}
 use Rattle.demands.specs.Soundings.{Sounding, _reads_, classesFor, mustTouched, mayTouched, row}
 
-abbrev pub chartIn : List ℕ → Chart
-chartIn bytes = chartOf bytes (headerOf (wordAt bytes 0))
-
 -- ---- an analysis with a start and a step of its own
-
-abbrev pub flowBy : Chart → Columns → Ages → (ℕ → Ages → Ages) → Flow
-flowBy chart columns start step =
-    record {
-      State = Ages;
-      nodes = chart .header .nodes;
-      entry = chart .header .entry;
-      arrows = arrows chart;
-      start = start;
-      step = step;
-      meet = meetAges columns;
-      same = sameAges;
-      Ok = Within columns;
-      Below = Tighter columns;
-    }
 
 abbrev pub classesAfter : Chart → Outcome Ages → List ℕ
 classesAfter chart (settled passes table) = tableClasses chart table
@@ -43,7 +22,7 @@ classesAfter chart spent = []
 
 -- The classes, in a chart, of an analysis that starts and steps so.
 abbrev pub readsBy : Chart → Ages → (ℕ → Ages → Ages) → List ℕ
-readsBy chart start step = classesAfter chart (settle (flowBy chart (columns chart) start step) allPasses)
+readsBy chart start step = classesAfter chart (settle (flowBy chart start step) allPasses)
 
 -- ---- the mistakes
 

@@ -114,3 +114,6 @@ untotalled =
     ∷ (totalling loopChart loopTable (priced 1 10 (1 ∷ 1 ∷ 2 ∷ []) (1 ∷ 10 ∷ 1 ∷ [])) reads (16 ∷ 2 ∷ []))
     ∷ (totalling endless (tableIn (after endless)) loopPrices reads (17 ∷ 2 ∷ []))
     ∷ []
+
+abbrev pub refusals : List Sounding
+refusals = damaged ++ (unanalysed ++ untotalled)

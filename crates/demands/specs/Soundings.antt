@@ -3,9 +3,8 @@
 use Prim.Native.Nat.{ℕ}
 use mathlib.Core.List.{List, [], _∷_, _++_}
 use lib.ListN.{replicate}
-use Rattle.chart.specs.Layout.{wordAt}
-use Rattle.chart.specs.Header.{headerOf, nodeCount}
-use Rattle.chart.specs.Chart.{Chart, chartOf}
+use Rattle.chart.specs.Header.{headerIn}
+use Rattle.chart.specs.Chart.{Chart, chartIn}
 use Rattle.cache.specs.Ages.{Columns, Ages, touchAges, meetAges}
 use Rattle.cache.specs.Plain.{emptyCache}
 use Rattle.analysis.specs.AgesFlow.{allPasses}
@@ -33,7 +32,7 @@ meeting one other =
 
 -- The buffers after an analysis with room for as many nodes as the chart has, and for two blocks.
 abbrev pub after : List ℕ → Buffers
-after bytes = analysed bytes allPasses (zeroBuffers (nodeCount (wordAt bytes 0)) 2) .buffers
+after bytes = analysed bytes allPasses (zeroBuffers (headerIn bytes .nodes) 2) .buffers
 
 abbrev pub classesFor : List ℕ → List ℕ
 classesFor bytes = after bytes .classes
@@ -55,7 +54,7 @@ loopTotals =
     ∷ []
 
 abbrev pub loop : Chart
-loop = chartOf loopChart (headerOf (wordAt loopChart 0))
+loop = chartIn loopChart
 
 -- "The walk with ten turns": node 0, then ten times node 1, then node 2.
 abbrev pub tenTurns : List ℕ

@@ -15,20 +15,12 @@ use Rattle.flow.specs.Flow.{Cell, blank, holds, cellAt, Among, Flow, Tab
 use Rattle.flow.specs.Pass.{Run, settled, spent, met, changes, metAt, put, putAll, visitWith, visit, visits, pass, before, afterPasses, settleFrom, settle}
 use Rattle.flow.specs.Laws.{Laws, Height}
 
--- The clauses of a settling, as laws for a loop.
+-- A settling whose last pass changed nothing is done.
 module _ (F : Flow) where
   pub settleFrom-done : (f c : ℕ) (T : Table F) → settleFrom F f c T false ≡ settled c T
   unfolding settleFrom
   settleFrom-done zero c T = refl
   settleFrom-done (suc f) c T = refl
-
-  pub settleFrom-spent : (c : ℕ) (T : Table F) → settleFrom F zero c T true ≡ spent
-  unfolding settleFrom
-  settleFrom-spent c T = refl
-
-  pub settleFrom-more : (f c : ℕ) (T : Table F) → settleFrom F (suc f) c T true ≡ settleFrom F f (suc c) (pass F T .table) (pass F T .changed)
-  unfolding settleFrom
-  settleFrom-more f c T = refl
 
 module _ (F : Flow) (L : Laws F) (H : Height F L) where
   abbrev pub cell-height : Cell (F .State) → ℕ

@@ -1,15 +1,14 @@
--- Laws of the first rule that applies, of the first number that passes a test, and of `every`.
+-- Laws of the first rule that applies, of the first number that passes a test, and of two tests.
 use mathlib.Core.Bool.{Bool, true, false, cond, _&&_}
 use mathlib.Core.List.{List, [], _∷_, _++_}
 use mathlib.Core.Logic.{_⊎_, inl, inr, ⊎-elim}
 use mathlib.Core.Path.{_≡_, refl, ap, _∙_}
 use Prim.Native.Nat.{ℕ, zero, suc, _+_, _-_, _≤_, _<_}
-use native.Mathlib.Nat.{eq-or-lt-of-le, le-of-suc-le-suc}
 use native.Mathlib.Numerals.{add-one}
 use native.Mathlib.Omega.{arith}
 use borrow.Author.Tests.{ltb-false}
 use lib.Dec.{ltb}
-use Rattle.lists.specs.Choice.{Rule, _⇒_, firstRule, NoneApplies, FirstApplies, firstFrom, first, every}
+use Rattle.lists.specs.Choice.{Rule, _⇒_, firstRule, NoneApplies, FirstApplies, firstFrom, first}
 
 -- ---- the first rule
 
@@ -99,17 +98,8 @@ none-passes n test e i h =
     let z : 0 + i ≡ i = omega arith in
     rw z at (tried 0 n test (omega arith) i h)
 
--- ---- every number
+-- ---- both of two tests
 
 pub and-true : (a b : Bool) → (a && b) ≡ true → (a ≡ true) × (b ≡ true)
 and-true true b e = (refl, e)
 and-true false b e = let z : _≡_ {A = ℕ} 0 1 = cc in absurd (omega arith)
-
-pub every-more : (n : ℕ) (test : ℕ → Bool) (c d : Bool) → c ≡ every n test → d ≡ (c && test n) → d ≡ every (n + 1) test
-every-more n test c d e h = rw (add-one, ← e) h
-
-pub every-at : (n : ℕ) (test : ℕ → Bool) → every n test ≡ true → (k : ℕ) → k < n → test k ≡ true
-every-at zero test e k h = absurd (omega arith)
-every-at (suc n) test e k h =
-    let d : (every n test ≡ true) × (test n ≡ true) = and-true (every n test) (test n) e in
-    ⊎-elim (λ q. rw q (d .1)) (λ lt. every-at n test (d .0) k lt) (eq-or-lt-of-le (le-of-suc-le-suc h))

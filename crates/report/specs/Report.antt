@@ -6,8 +6,8 @@ use lib.Dec.{eqb}
 use Rattle.lists.specs.Choice.{_⇒_, firstRule}
 use Rattle.lists.specs.Lists.{listOf, joined}
 use Rattle.chart.specs.Geometry.{mostNodes, mostBlocks}
-use Rattle.chart.specs.Header.{nodeCount}
-use Rattle.chart.specs.Layout.{wordAt}
+use Rattle.chart.specs.Header.{headerIn}
+use Rattle.chart.specs.Layout.{chartLength}
 use Rattle.chart.specs.Refusals.{numberOf, placeOf}
 use Rattle.analysis.specs.AgesFlow.{allPasses}
 use Rattle.analysis.specs.declared.Analysed.{Analysed}
@@ -18,7 +18,7 @@ use Rattle.report.specs.Text.{lineFeed, space, nodesWord, blocksWord, pa
 
 -- "a chart of up to 2,056 bytes .. a longer input gets the answer for its first 2,057 bytes"
 abbrev pub longest : ℕ
-longest = 8 + 8 * mostNodes
+longest = chartLength mostNodes
 
 abbrev pub taken : List ℕ → List ℕ
 taken input = take (longest + 1) input
@@ -58,7 +58,7 @@ zeroBuffers nodes blocks =
     }
 
 abbrev pub reportLeft : List ℕ → Left → List ℕ
-reportLeft bytes left = reportOf (nodeCount (wordAt bytes 0)) (left .buffers .classes) (left .answer)
+reportLeft bytes left = reportOf (headerIn bytes .nodes) (left .buffers .classes) (left .answer)
 
 -- "It allows 262,401 passes." Its own buffers have room for the largest chart.
 unfoldable pub report : List ℕ → List ℕ

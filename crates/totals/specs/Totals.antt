@@ -8,7 +8,7 @@ use Rattle.lists.specs.Choice.{Rule, _⇒_, firstRule, first}
 use Rattle.lists.specs.Lists.{sumOf}
 use Rattle.chart.specs.declared.refusals.Refusal.{Refusal}
 use Rattle.chart.specs.declared.refusals.Refusal.the-variants.{ShortBuffer, NotPassing, BoundsLength, Costs, FloorAboveCeiling, FloorAtUnmarked}
-use Rattle.chart.specs.Refusals.{Said, refusalSays}
+use Rattle.chart.specs.Refusals.{Said, answerWith, refusalSays}
 use Rattle.chart.specs.Chart.{Chart, Read, accepted, refused, readChart, touches}
 use Rattle.cache.specs.Ages.{Ages}
 use Rattle.flow.specs.Flow.{Cell, blank, holds, cellAt}
@@ -74,7 +74,7 @@ totalRules chart lent prices =
 
 -- This paper's number and values for each answer.
 abbrev pub totalsSay : Totals → Said
-totalsSay (Between low high) = record { number = 0; place = 0; passes = 0; blocks = 0; yes = 0; low = low; high = high }
+totalsSay (Between low high) = answerWith 0 0 0 low high
 totalsSay (Refused refusal) = refusalSays refusal
 
 abbrev pub totalRead : Lent → Prices → Read → Totals

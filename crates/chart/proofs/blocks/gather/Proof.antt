@@ -1,12 +1,13 @@
 use borrow.Author.Needs.{needs}
 use mathlib.Core.Path.{_≡_}
-use Prim.Native.Nat.{_-_, _≤_}
+use Prim.Native.Nat.{_+_, _-_, _≤_}
 use lib.ListN.{length}
 use Rattle.lists.specs.Choice.{first, firstFrom}
 use Rattle.lists.specs.Lists.{padded}
 use Rattle.lists.proofs.Choice.{first-begins, first-passes}
 use Rattle.chart.specs.Blocks.{gathered}
 use Rattle.chart.specs.Chart.{touchesAt}
+use Rattle.chart.specs.Inner.{Laid}
 use Rattle.chart.specs.Geometry.{mostBlocks}
 use Rattle.chart.proofs.Arrays.{gathered-none, gather-listing, gather-over, gather-within}
 use Rattle.chart.proofs.Reader.{over, gather-turn, gathers-over, gathers-all}
@@ -21,6 +22,14 @@ Inv-loop chart geometry nodes blocks₀ count₀ n₀ blocks count n =
 
 abbrev μ-loop : tie.MeasureT-loop
 μ-loop chart geometry nodes blocks₀ count₀ n₀ blocks count n = nodes - n
+
+-- What a turn brings: the blocks of the nodes up to and with node n.
+turn : (q : tie.After-put-record Inv-loop μ-loop) → Laid mostBlocks (gathered (touchesAt (q .before .before .before .before .before .before .before .before .args .geometry) (q .before .before .before .before .before .before .before .before .args .chart .now)) (q .before .before .before .before .before .loop .n + 1)) (q .put-record .result) (q .put-record .last .0)
+turn q =
+    let a = q .before .before .before .before .before .before .before .before .args in
+    let l = q .before .before .before .before .before .loop in
+    gather-turn (a .chart .now) (a .geometry) (l .n) (l .count) (l .blocks) (l .inv .1 .0) (l .inv .1 .1 .1 .0) (l .inv .1 .1 .1 .1 .0)
+    (q .before .before .word-at .result) (q .before .record-of .result) (q .before .before .word-at .ensures) (q .before .record-of .ensures) (q .put-record .result) (q .put-record .last .0) (q .put-record .ensures)
 
 loop-holds : tie.Need-loop-holds Inv-loop μ-loop
 loop-holds c =
@@ -62,8 +71,7 @@ returns c =
     let a = c .before .before .before .before .before .before .before .before .before .before .before .args in
     let l = c .before .before .before .before .before .before .before .before .loop in
     let p = c .before .before .before .put-record in
-    let g = gather-turn (a .chart .now) (a .geometry) (l .n) (l .count) (l .blocks) (l .inv .1 .0) (l .inv .1 .1 .1 .0) (l .inv .1 .1 .1 .1 .0)
-    (c .before .before .before .before .before .word-at .result) (c .before .before .before .before .record-of .result) (c .before .before .before .before .before .word-at .ensures) (c .before .before .before .before .record-of .ensures) (p .result) (p .last .0) (p .ensures) in
+    let g = turn (c .before .before .before) in
     gathers-over (a .chart .now) (a .geometry) (a .nodes) (l .n) (p .last .0) (l .inv .1 .1 .1 .1 .1) (c .before .before .before .before .before .before .before .loop-test .taken)
     (gather-over mostBlocks (touchesAt (a .geometry) (a .chart .now)) (l .n) (p .result) (p .last .0) g (c .if1 .taken))
 
@@ -78,8 +86,7 @@ loop-again c =
     let a = c .before .before .before .before .before .before .before .before .before .before .before .args in
     let l = c .before .before .before .before .before .before .before .before .loop in
     let p = c .before .before .before .put-record in
-    let g = gather-turn (a .chart .now) (a .geometry) (l .n) (l .count) (l .blocks) (l .inv .1 .0) (l .inv .1 .1 .1 .0) (l .inv .1 .1 .1 .1 .0)
-    (c .before .before .before .before .before .word-at .result) (c .before .before .before .before .record-of .result) (c .before .before .before .before .before .word-at .ensures) (c .before .before .before .before .record-of .ensures) (p .result) (p .last .0) (p .ensures) in (
+    let g = turn (c .before .before .before) in (
       search needs,
       (
         c .if1 .left,

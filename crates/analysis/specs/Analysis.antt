@@ -16,9 +16,9 @@ use Rattle.flow.specs.Flow.{Cell}
 use Rattle.flow.specs.Pass.{Outcome, settled, spent, settle}
 use Rattle.analysis.specs.declared.Analysed.{Analysed}
 use Rattle.analysis.specs.declared.Analysed.the-variants.{Settled, Refused}
-use Rattle.analysis.specs.AgesFlow.{agesFlow}
+use Rattle.tables.specs.AgesFlow.{agesFlow}
 use Rattle.analysis.specs.Class.{tableClasses}
-use Rattle.analysis.specs.Lent.{Lent, agesUsed, marksUsed, tableShort, lentOf}
+use Rattle.tables.specs.Lent.{Lent, agesUsed, marksUsed, tableShort, lentOf}
 
 -- The five buffers that the analysis writes to.
 pub record Buffers : Type 0 where

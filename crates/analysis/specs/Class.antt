@@ -8,7 +8,7 @@ use Rattle.lists.specs.Lists.{listOf}
 use Rattle.chart.specs.Chart.{Chart, touches}
 use Rattle.cache.specs.Ages.{Ages, ageOf}
 use Rattle.flow.specs.Flow.{Cell, blank, holds, cellAt}
-use Rattle.analysis.specs.AgesFlow.{columns, columnOf, touched}
+use Rattle.tables.specs.AgesFlow.{columns, columnOf, touched}
 
 abbrev pub unreached : ℕ
 unreached = 0
@@ -25,14 +25,19 @@ unsure = 3
 abbrev pub none : ℕ
 none = 4
 
--- The class of one touch, read from the state just before it: "1 hit (must age below A), 2 miss (may age is A), 3 unsure".
-unfoldable pub classOf : Chart → ℕ → Ages → ℕ
-classOf chart block a =
+-- The class of a touch by the block's must and may age: "1 hit (must age below A), 2 miss (may age is A), 3 unsure".
+unfoldable pub classBy : ℕ → ℕ → ℕ → ℕ
+classBy limit must may =
     firstRule (λ class. class)
-    ((ltb (ageOf (a .must) (columnOf chart block)) (columns chart .limit (columnOf chart block)) ⇒ hit)
-    ∷ (eqb (ageOf (a .may) (columnOf chart block)) (columns chart .limit (columnOf chart block)) ⇒ miss)
+    ((ltb must limit ⇒ hit)
+    ∷ (eqb may limit ⇒ miss)
     ∷ [])
     unsure
+
+-- The class of one touch, read from the state just before it.
+abbrev pub classOf : Chart → ℕ → Ages → ℕ
+classOf chart block a =
+    classBy (columns chart .limit (columnOf chart block)) (ageOf (a .must) (columnOf chart block)) (ageOf (a .may) (columnOf chart block))
 
 -- The classes of touches in turn.
 abbrev pub classesOf : Chart → List ℕ → Ages → List ℕ

@@ -1,4 +1,3 @@
-pub mod AgesFlow
 pub mod Class
-pub mod Lent
 pub mod Analysis
+pub mod Inner

@@ -1,5 +1,10 @@
-// The built-in analysis. Its answer and its definitions; the code is not there yet.
+// The built-in analysis: passes until the table settles, then a class for each node.
+mod buffers;
+mod classes;
+mod settled;
+
 use chart::Refusal;
+pub use settled::analyse;
 
 // Settled after so many passes over a chart of so many blocks, or a refusal.
 pub enum Analysed {

@@ -32,6 +32,9 @@ paste-padded size l b p h k =
     let e : size - length l ≡ suc (size - (length l + 1)) = omega arith in
     rw (e, length-put b p l h) (paste-put l (replicate (size - (length l + 1)) 0) b p 0 h)
 
+pub ascending-padded : (size : ℕ) (l : List ℕ) → Ascending (length l) l → Ascending (length l) (padded size l)
+ascending-padded size l s i j p q = rw (getD-padded size l i (omega arith), getD-padded size l j q) (s i j p q)
+
 -- A listing: its array's length, its list's, and how a laid list makes one.
 module _ (size count : ℕ) (array : List ℕ) (given : Listing size count array) where
   pub listing-size : length array ≡ size
@@ -48,7 +51,7 @@ laid-listing size count array l h n e s =
     record {
       short = h;
       laid = e ∙ ap (padded size) (sym (laid-take size count array l n e));
-      ascending = λ i j p q. rw (e, getD-padded size l i (omega arith), getD-padded size l j (omega arith)) (s i j p (omega arith));
+      ascending = rw (e, n) (ascending-padded size l s);
     }
 
 -- ---- a block put into an array

@@ -22,6 +22,16 @@ insert-same b x l h = rw (le-ltb x b (omega arith), eq-eqb x b h)
 insert-before : (b x : ℕ) (l : List ℕ) → b ≤ x → (x ≡ b → ⊥) → insert b (x ∷ l) ≡ b ∷ x ∷ l
 insert-before b x l h n = rw (le-ltb x b h, ne-eqb x b n)
 
+-- Which way an insertion goes at the head of a list.
+pub insert-cases : (P : List ℕ → Type 0) (c x : ℕ) (l : List ℕ) → (x < c → P (x ∷ insert c l)) → (x ≡ c → P (x ∷ l)) → (c < x → P (c ∷ x ∷ l)) → P (insert c (x ∷ l))
+insert-cases P c x l past same front = ⊎-elim
+    (λ (h : x < c). rw (insert-past c x l h) (past h))
+    (λ (h : c ≤ x). ⊎-elim
+    (λ (k : x ≤ c). let e : x ≡ c = omega arith in rw (insert-same c x l e) (same e))
+    (λ (k : c < x). rw (insert-before c x l h (λ e. omega arith)) (front k))
+    (at-most x c))
+    (below-or x c)
+
 -- A block that stands at its place is not put in again.
 pub insert-there : (b : ℕ) (l : List ℕ) → placeIn l b < length l → getD l (placeIn l b) 0 ≡ b → insert b l ≡ l
 insert-there b [] h e = let q = place-nil b in absurd (omega arith)
@@ -66,16 +76,9 @@ above-tail x y l a j k = a (suc j) (omega arith)
 
 above-insert : (x b : ℕ) (l : List ℕ) → x < b → Above x l → Above x (insert b l)
 above-insert x b [] h a = above-cons x b [] h a
-above-insert x b (y ∷ l) h a = ⊎-elim (past (above-insert x b l h (above-tail x y l a))) here (below-or y b)
-  where
-    past : Above x (insert b l) → y < b → Above x (insert b (y ∷ l))
-    past rest p = rw (insert-past b y l p) (above-cons x y (insert b l) (a 0 (omega arith)) rest)
-
-    here : b ≤ y → Above x (insert b (y ∷ l))
-    here p = ⊎-elim
-        (λ (q : y ≤ b). let e : y ≡ b = omega arith in rw (insert-same b y l e) a)
-        (λ (q : b < y). rw (insert-before b y l p (λ e. omega arith)) (above-cons x b (y ∷ l) h a))
-        (at-most y b)
+above-insert x b (y ∷ l) h a =
+    let rest = above-insert x b l h (above-tail x y l a) in
+    insert-cases (Above x) b y l (λ p. above-cons x y (insert b l) (a 0 (omega arith)) rest) (λ e. a) (λ p. above-cons x b (y ∷ l) h a)
 
 asc-cons : (x : ℕ) (l : List ℕ) → Above x l → Ascending (length l) l → Ascending (length (x ∷ l)) (x ∷ l)
 asc-cons x l a s i zero h k = absurd (omega arith)
@@ -90,16 +93,12 @@ asc-tail x l s i j h k = s (suc i) (suc j) (omega arith) (omega arith)
 
 asc-insert : (b : ℕ) (l : List ℕ) → Ascending (length l) l → Ascending (length (insert b l)) (insert b l)
 asc-insert b [] s = asc-cons b [] (λ j h. absurd (omega arith)) s
-asc-insert b (y ∷ l) s = ⊎-elim (past (asc-insert b l (asc-tail y l s))) here (below-or y b)
-  where
-    past : Ascending (length (insert b l)) (insert b l) → y < b → Ascending (length (insert b (y ∷ l))) (insert b (y ∷ l))
-    past rest p = rw (insert-past b y l p) (asc-cons y (insert b l) (above-insert y b l p (asc-above y l s)) rest)
-
-    here : b ≤ y → Ascending (length (insert b (y ∷ l))) (insert b (y ∷ l))
-    here p = ⊎-elim
-        (λ (q : y ≤ b). let e : y ≡ b = omega arith in rw (insert-same b y l e) s)
-        (λ (q : b < y). rw (insert-before b y l p (λ e. omega arith)) (asc-cons b (y ∷ l) (above-cons b y l q (λ j h. let a = asc-above y l s j h in omega arith)) s))
-        (at-most y b)
+asc-insert b (y ∷ l) s =
+    let rest = asc-insert b l (asc-tail y l s) in
+    insert-cases (λ (m : List ℕ). Ascending (length m) m) b y l
+    (λ p. asc-cons y (insert b l) (above-insert y b l p (asc-above y l s)) rest)
+    (λ e. s)
+    (λ p. asc-cons b (y ∷ l) (above-cons b y l p (λ j h. let a = asc-above y l s j h in omega arith)) s)
 
 asc-insertAll : (bs l : List ℕ) → Ascending (length l) l → Ascending (length (insertAll bs l)) (insertAll bs l)
 asc-insertAll [] l s = s

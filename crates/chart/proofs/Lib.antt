@@ -4,3 +4,8 @@ pub mod Insertion
 pub mod Shift
 pub mod Arrays
 pub mod Reader
+pub mod Placed
+pub mod Accepted
+pub mod Nodes
+pub mod Answers
+pub mod Values

@@ -22,13 +22,14 @@ use Rattle.chart.specs.declared.shape.Geometry.{Geometry}
 use Rattle.chart.specs.Blocks.{insertAll, gathered, overfull}
 use Rattle.chart.specs.Inner.{Laid}
 use Rattle.chart.specs.Chart.{Read, accepted, refused, chartOf, chartIn, touchesAt, firstBroken, firstOverfull, recordRules, chartRules, readChart}
-use Rattle.chart.specs.Geometry.{mostBlocks}
+use Rattle.chart.specs.Geometry.{mostNodes, mostBlocks}
 use Rattle.chart.specs.Header.{headerIn, headerRules, headerRead}
 use Rattle.chart.specs.Layout.{wordAt}
 use Rattle.chart.specs.Record.{recordOf, touchesOf}
 use Rattle.chart.specs.Reading.{readingOf}
 use Rattle.chart.specs.Inner.{Gathers}
 use Rattle.chart.proofs.Arrays.{gather-more}
+use Rattle.chart.proofs.Accepted.{between-both}
 
 -- ---- the blocks of all nodes, or the first node that brings one too many
 
@@ -118,19 +119,24 @@ module _ (bytes : List ℕ) (header : Header) (taken : headerRead bytes ≡ read
   unfolding headerRead
   no-refusal = none-applies read.Refused (headerRules bytes) (read.Accepted (headerIn bytes)) (read.Accepted header) (λ x q. let z : _≡_ {A = ℕ} 0 1 = cc in omega arith) taken
 
-  header-is : headerIn bytes ≡ header
+  pub read-header : headerIn bytes ≡ header
   unfolding headerRead
-  header-is =
+  read-header =
       let e : read.Accepted (headerIn bytes) ≡ read.Accepted header = sym (first-otherwise read.Refused (headerRules bytes) (read.Accepted (headerIn bytes)) no-refusal) ∙ taken in
       cc
 
   pub read-length : length bytes ≡ 8 + 8 * header .nodes
   read-length =
       let n : (length bytes ≡ 8 + 8 * headerIn bytes .nodes) = eqb-true (length bytes) (8 + 8 * headerIn bytes .nodes) (not-false (eqb (length bytes) (8 + 8 * headerIn bytes .nodes)) (no-refusal .1 .1 .1 .1 .1 .1 .1 .0)) in
-      n ∙ ap (λ (h : Header). 8 + 8 * h .nodes) header-is
+      n ∙ ap (λ (h : Header). 8 + 8 * h .nodes) read-header
+
+  pub read-nodes : header .nodes ≤ mostNodes
+  read-nodes =
+      subst (λ (h : Header). h .nodes ≤ mostNodes) read-header
+      (between-both 1 mostNodes (headerIn bytes .nodes) (not-false _ (no-refusal .1 .1 .1 .1 .0)) .1)
 
   pub read-accepts : readChart bytes ≡ recordsRead bytes header
   unfolding readChart
   read-accepts =
       first-after refused (headerRules bytes) (recordRules bytes (headerIn bytes)) (accepted (chartIn bytes)) no-refusal
-      ∙ ap (recordsRead bytes) header-is
+      ∙ ap (recordsRead bytes) read-header

@@ -4,7 +4,8 @@ use mathlib.Core.Bool.{Bool, _&&_}
 use lib.Dec.{leb}
 use Rattle.chart.specs.declared.shape.Geometry.{Geometry}
 
--- "The largest node, block and way counts belong to the geometry's type and are named once": the constants of `Geometry`.
+-- "The largest node, block and way counts belong to the geometry's type and are named once": the constants of `Geometry`. These are the
+-- same numbers for definitions, which cannot name a constant of the source; code that differs from them is not proved.
 abbrev pub mostNodes : ℕ
 mostNodes = 256
 
@@ -13,6 +14,10 @@ mostBlocks = 64
 
 abbrev pub mostWays : ℕ
 mostWays = 8
+
+-- The most that S may be: there are 2^S sets.
+abbrev pub mostSetBits : ℕ
+mostSetBits = 8
 
 -- "block = address / 2^L, rounded down"
 unfoldable pub blockOf : Geometry → ℕ → ℕ
@@ -27,4 +32,4 @@ between least most n = leb least n && leb n most
 
 -- The table's "allowed": L from 2 to 8, S from 0 to 8, A from 1 to 8.
 unfoldable pub shapeAllowed : Geometry → Bool
-shapeAllowed geometry = between 2 8 (geometry .line) && (between 0 8 (geometry .sets) && between 1 mostWays (geometry .ways))
+shapeAllowed geometry = between 2 8 (geometry .line) && (between 0 mostSetBits (geometry .sets) && between 1 mostWays (geometry .ways))

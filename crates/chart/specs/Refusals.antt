@@ -48,7 +48,7 @@ pub record Said : Type 0 where
   pub place : ℕ
   pub passes : ℕ
   pub blocks : ℕ
-  -- the checker's answer: yes is 1, no is 0
+  -- the checker's answer, where the number is 0: yes is 1, no is 0
   pub yes : ℕ
   pub low : ℕ
   pub high : ℕ

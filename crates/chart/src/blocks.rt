@@ -22,7 +22,7 @@ pub enum Gathered {
 }
 
 // The place of a block among the first `count` of an ascending list: the first that is not below it, or `count`.
-pub(crate) fn place_in(blocks: &[u32], count: usize, block: u32) -> usize
+pub fn place_in(blocks: &[u32], count: usize, block: u32) -> usize
     requires { ⌜ count ≤ length (now blocks) ⌝ }
     requires { ⌜ Ascending count (now blocks) ⌝ }
     ensures { λ r. ⌜ r ≡ placeIn (take count (now (blocks .entry))) block ⌝ }

@@ -7,6 +7,7 @@ mod refusals;
 mod shape;
 mod words;
 
+pub use blocks::place_in;
 pub use headers::Header;
 pub use headers::HeaderRead;
 pub use headers::Start;

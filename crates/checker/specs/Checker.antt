@@ -10,8 +10,8 @@ use Rattle.chart.specs.declared.refusals.Refusal.the-variants.{ShortBuffer}
 use Rattle.chart.specs.Refusals.{Said, answerWith, refusalSays}
 use Rattle.chart.specs.Chart.{Chart, Read, accepted, refused, readChart, arrows, blockCount}
 use Rattle.cache.specs.Ages.{Ages, ageOf}
-use Rattle.analysis.specs.AgesFlow.{agesFlow, columns}
-use Rattle.analysis.specs.Lent.{Lent, agesAt, tableShort}
+use Rattle.tables.specs.AgesFlow.{agesFlow, columns}
+use Rattle.tables.specs.Lent.{Lent, agesAt, tableShort}
 use Rattle.checker.specs.declared.Checked.{Checked}
 use Rattle.checker.specs.declared.Checked.the-variants.{Passes, Fails, Refused}
 

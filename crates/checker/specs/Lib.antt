@@ -1,1 +1,2 @@
 pub mod Checker
+pub mod Inner

@@ -13,8 +13,8 @@ use Rattle.cache.specs.Plain.{has, without, touchSet, hits, touch}
 use Rattle.cache.specs.Ages.{mustGrown, mayGrown, mustAfter, mayAfter, sameAges, touchAges, meetAges, startAges}
 use Rattle.flow.specs.Pass.{met, changes, metAt, put, putAll, visitWith, visit, visits, pass, before, settleFrom, settle}
 use Rattle.flow.specs.Walk.{Walk}
-use Rattle.analysis.specs.AgesFlow.{allPasses}
-use Rattle.analysis.specs.Class.{classOf}
+use Rattle.tables.specs.AgesFlow.{allPasses}
+use Rattle.analysis.specs.Class.{classBy}
 use Rattle.analysis.specs.Analysis.{finish, analysed}
 use Rattle.checker.specs.Checker.{passes}
 use Rattle.report.specs.Report.{longest, report}
@@ -26,7 +26,7 @@ use Rattle.demands.specs.Mistakes.{right, mistaken}
 
 -- All that has to be seen through for a definition to compute.
 everything : Unit {0}
-unfolding readingOf wordAt blockOf setOf shapeAllowed recordKeeps recordOf arrowsOf touchesOf gathered overfull placeIn firstBroken firstOverfull readChart has without touchSet hits touch mustGrown mayGrown mustAfter mayAfter sameAges touchAges meetAges startAges met changes metAt put putAll visitWith visit visits pass before settleFrom settle classOf finish analysed passes totalOf totals report
+unfolding readingOf wordAt blockOf setOf shapeAllowed recordKeeps recordOf arrowsOf touchesOf gathered overfull placeIn firstBroken firstOverfull readChart has without touchSet hits touch mustGrown mayGrown mustAfter mayAfter sameAges touchAges meetAges startAges met changes metAt put putAll visitWith visit visits pass before settleFrom settle classBy finish analysed passes totalOf totals report
 everything = tt
 
 -- Every sounding of a list gives what is wanted.

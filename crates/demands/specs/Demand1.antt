@@ -6,20 +6,20 @@ use mathlib.Core.Path.{_≡_}
 use mathlib.Core.Bool.{true, false}
 use mathlib.Core.List.{List}
 use mathlib.Core.Logic.{_⊎_}
-use lib.ListN.{length, take}
+use lib.ListN.{length, take, replicate}
 use Rattle.lists.specs.Choice.{FirstApplies, NoneApplies}
 use Rattle.chart.specs.declared.refusals.Refusal.{Refusal}
 use Rattle.chart.specs.declared.refusals.Refusal.the-variants.{ShortBuffer, Unsettled}
 use Rattle.chart.specs.declared.headers.HeaderRead.the-variants.{Refused as HeaderRefused}
 use Rattle.chart.specs.declared.readings.Verdict.the-variants.{Refused as ReaderRefused}
 use Rattle.chart.specs.Geometry.{mostBlocks}
-use Rattle.chart.specs.Header.{headerRead, headerSays}
+use Rattle.chart.specs.Header.{headerRules, headerRead, headerSays}
 use Rattle.chart.specs.Reading.{reading, verdictSays}
 use Rattle.chart.specs.Chart.{Chart, accepted, refused, readChart, chartRules, blockCount}
 use Rattle.chart.specs.Refusals.{numberOf, refusalWith, refusalSays}
 use Rattle.flow.specs.Pass.{pass, afterPasses}
-use Rattle.analysis.specs.AgesFlow.{agesFlow}
-use Rattle.analysis.specs.Lent.{Lent, agesUsed, marksUsed, tableShort}
+use Rattle.tables.specs.AgesFlow.{agesFlow}
+use Rattle.tables.specs.Lent.{Lent, agesUsed, marksUsed, tableShort}
 use Rattle.analysis.specs.Analysis.{Buffers, buffersShort, filledByZeros, refuse, analysed, analysedSays}
 use Rattle.analysis.specs.declared.Analysed.the-variants.{Settled}
 use Rattle.analysis.specs.declared.Analysed.the-variants.{Refused as AnalysisRefused}
@@ -50,14 +50,16 @@ pub record SameUsed (chart : Chart) (one other : Lent) : Type 0 where
   pub one-long : tableShort chart one ≡ false
   pub other-long : tableShort chart other ≡ false
 
--- Refusals 1 to 10: when they are given, that each of the five functions gives them, and that the analysis then leaves its buffers as
--- they were.
+-- Refusals 1 to 10: when they are given, that reader, analysis, checker and totals all give them and the header alone gives 1 to 8, and
+-- what they leave behind.
 pub record ReadingRefusals : Type 0 where
   pub given : (bytes : List ℕ) (refusal : Refusal) → FirstApplies (chartRules bytes) refusal → readChart bytes ≡ refused refusal
   pub only : (bytes : List ℕ) (refusal : Refusal) → readChart bytes ≡ refused refusal → FirstApplies (chartRules bytes) refusal
-  -- reading the header alone gives 1 to 8 as reading the whole does
+  -- reading the header alone gives 1 to 8, exactly by their rules, as reading the whole does
+  pub header-given : (bytes : List ℕ) (refusal : Refusal) → FirstApplies (headerRules bytes) refusal → headerRead bytes ≡ HeaderRefused refusal
+  pub header-only : (bytes : List ℕ) (refusal : Refusal) → headerRead bytes ≡ HeaderRefused refusal → FirstApplies (headerRules bytes) refusal
   pub to-header : (bytes : List ℕ) (refusal : Refusal) → headerRead bytes ≡ HeaderRefused refusal → readChart bytes ≡ refused refusal
-  pub to-reader : (bytes : List ℕ) (refusal : Refusal) → readChart bytes ≡ refused refusal → reading bytes .verdict ≡ ReaderRefused refusal
+  pub to-reader : (bytes : List ℕ) (refusal : Refusal) → readChart bytes ≡ refused refusal → reading bytes ≡ record { verdict = ReaderRefused refusal; blocks = replicate mostBlocks 0 }
   pub to-analysis : (bytes : List ℕ) (refusal : Refusal) (allowance : ℕ) (lent : Buffers)
       → readChart bytes ≡ refused refusal
       → analysed bytes allowance lent ≡ refuse lent refusal

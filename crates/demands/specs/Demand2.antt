@@ -1,6 +1,6 @@
 -- Demand 2: "Ages are those of the published LRU must and may analysis. A checker passes a table exactly when it meets the equations of
 -- document 01. The built-in analysis is refused only as 01 lists; otherwise its table passes and is the tightest of all that pass."
--- (That it is refused only as 01 lists is `Demand1.analysis`.)
+-- (That it is refused only as 01 lists is `Demand1.readings` and `Demand1.analysis`.)
 use Prim.Native.Nat.{ℕ, suc, _≤_, _<_}
 use mathlib.Core.Path.{_≡_}
 use mathlib.Core.Bool.{true, false}
@@ -11,8 +11,8 @@ use Rattle.flow.specs.Flow.{cellAt}
 use Rattle.flow.specs.Passing.{Marked, Tightest}
 use Rattle.flow.specs.Pass.{pass, afterPasses}
 use Rattle.flow.specs.Walk.{Reached}
-use Rattle.analysis.specs.AgesFlow.{agesFlow, mostPasses, allPasses}
-use Rattle.analysis.specs.Lent.{Lent, tableOf, TablePasses}
+use Rattle.tables.specs.AgesFlow.{agesFlow, mostPasses, allPasses}
+use Rattle.tables.specs.Lent.{Lent, tableOf, TablePasses}
 use Rattle.analysis.specs.declared.Analysed.the-variants.{Settled}
 use Rattle.analysis.specs.Analysis.{Buffers, buffersShort, filledBy, tableIn, analysed}
 use Rattle.checker.specs.Checker.{checked, checkedSays}

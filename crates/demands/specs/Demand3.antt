@@ -12,9 +12,9 @@ use Rattle.cache.specs.Plain.{Cache}
 use Rattle.flow.specs.Flow.{cellAt}
 use Rattle.flow.specs.Passing.{Marked}
 use Rattle.flow.specs.Walk.{Walk, visitsOf, AtTouches}
-use Rattle.analysis.specs.AgesFlow.{touched}
+use Rattle.tables.specs.AgesFlow.{touched}
 use Rattle.analysis.specs.Class.{hit, miss, classOf, nodeClass}
-use Rattle.analysis.specs.Lent.{Lent, agesAt, tableOf, TablePasses}
+use Rattle.tables.specs.Lent.{Lent, agesAt, tableOf, TablePasses}
 use Rattle.totals.specs.declared.Totals.the-variants.{Between}
 use Rattle.totals.specs.Totals.{Prices, lowTotal, highTotal, totals}
 use Rattle.demands.specs.Machine.{plainMachine, Begins, ageWith, lastNode, contentsAfter, costOf}

@@ -9,7 +9,7 @@ use Rattle.lists.specs.Lists.{listOf}
 use Rattle.chart.specs.Chart.{Chart, chartIn, blockCount}
 use Rattle.cache.specs.Ages.{Ages, ageOf, meetAges, startAges}
 use Rattle.flow.specs.Pass.{Outcome, settled, spent, settle}
-use Rattle.analysis.specs.AgesFlow.{columns, flowBy, agesFlow, allPasses}
+use Rattle.tables.specs.AgesFlow.{columns, flowBy, agesFlow, allPasses}
 use Rattle.analysis.specs.Class.{tableClasses}
 use Rattle.demands.specs.Charts.{oneSetTwoWaysEmpty, oneSetTwoWays, twoSetsOneWay, straightChart, entryLoopChart}
 use Rattle.demands.specs.Soundings.{Sounding, _reads_, classesFor, mustTouched, mayTouched, row}

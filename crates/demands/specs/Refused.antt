@@ -5,7 +5,7 @@ use mathlib.Core.List.{List, [], _∷_, _++_}
 use lib.ListN.{replicate, set, take}
 use Rattle.chart.specs.Refusals.{Said}
 use Rattle.chart.specs.Reading.{reading, verdictSays}
-use Rattle.analysis.specs.Lent.{Lent}
+use Rattle.tables.specs.Lent.{Lent}
 use Rattle.analysis.specs.Analysis.{Buffers, tableIn, analysed, analysedSays}
 use Rattle.report.specs.Report.{zeroBuffers}
 use Rattle.totals.specs.Totals.{Prices, totals, totalsSay}

@@ -7,7 +7,7 @@ use Rattle.chart.specs.Header.{headerIn}
 use Rattle.chart.specs.Chart.{Chart, chartIn}
 use Rattle.cache.specs.Ages.{Columns, Ages, touchAges, meetAges}
 use Rattle.cache.specs.Plain.{emptyCache}
-use Rattle.analysis.specs.AgesFlow.{allPasses}
+use Rattle.tables.specs.AgesFlow.{allPasses}
 use Rattle.analysis.specs.Analysis.{Buffers, tableIn, analysed}
 use Rattle.report.specs.Report.{zeroBuffers}
 use Rattle.totals.specs.Totals.{Prices, totals, totalsSay}

@@ -156,7 +156,8 @@ module _ (F : Flow) (L : Laws F) (H : Height F L) where
 
 -- What an outcome says of the passes made.
 module _ (F : Flow) where
-  pub moves : ℕ → Bool
+  -- Whether the pass after k changes something.
+  abbrev pub moves : ℕ → Bool
   moves k = pass F (afterPasses F k) .changed
 
   pub record Count (f k : ℕ) (U : Table F) : Type 0 where
@@ -180,12 +181,11 @@ module _ (F : Flow) where
       go (no q) = b j (omega arith)
 
   at-next : (T : Table F) (c : ℕ) → T ≡ afterPasses F c → (j : ℕ) → suc j ≡ suc c → moves j ≡ pass F T .changed
-  unfolding moves
   at-next T c t j s = let p : j ≡ c = omega arith in ap (λ (i : ℕ). pass F (afterPasses F i) .changed) p ∙ ap (λ (S : Table F). pass F S .changed) (sym t)
 
   settleFrom-says : (f c : ℕ) (T : Table F) (b : Bool) → T ≡ afterPasses F c → ((j : ℕ) → suc j ≡ c → moves j ≡ b) → ((j : ℕ) → suc j < c → moves j ≡ true)
       → (k : ℕ) (U : Table F) → settleFrom F f c T b ≡ settled k U → Count (c + f) k U
-  unfolding settleFrom moves afterPasses
+  unfolding settleFrom afterPasses
   settleFrom-says zero c T false t l b k U e = counted (c + zero) c T t l b k U e (omega arith)
   settleFrom-says zero c T true t l b k U e = let z : _≡_ {A = ℕ} 0 1 = cc in absurd (omega arith)
   settleFrom-says (suc n) c T false t l b k U e = counted (c + suc n) c T t l b k U e (omega arith)
@@ -201,7 +201,7 @@ module _ (F : Flow) where
 
   settleFrom-spends : (f c : ℕ) (T : Table F) (b : Bool) → T ≡ afterPasses F c → ((j : ℕ) → suc j ≡ c → moves j ≡ b) → ((j : ℕ) → suc j < c → moves j ≡ true)
       → settleFrom F f c T b ≡ spent → (j : ℕ) → j < c + f → moves j ≡ true
-  unfolding settleFrom moves afterPasses
+  unfolding settleFrom afterPasses
   settleFrom-spends zero c T false t l b e j h = let z : _≡_ {A = ℕ} 0 1 = cc in absurd (omega arith)
   settleFrom-spends zero c T true t l b e j h = earlier c l b j (omega arith)
   settleFrom-spends (suc n) c T false t l b e j h = let z : _≡_ {A = ℕ} 0 1 = cc in absurd (omega arith)

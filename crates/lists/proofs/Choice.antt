@@ -1,14 +1,48 @@
--- Laws of the first rule that applies, of the first number that passes a test, and of two tests.
-use mathlib.Core.Bool.{Bool, true, false, cond, _&&_}
+-- Laws of the first rule that applies, of the first number that passes a test, of two tests, and of a test that every number passes.
+use mathlib.Core.Bool.{Bool, true, false, cond, _&&_, _||_}
 use mathlib.Core.List.{List, [], _∷_, _++_}
 use mathlib.Core.Logic.{_⊎_, inl, inr, ⊎-elim}
-use mathlib.Core.Path.{_≡_, refl, ap, _∙_}
+use mathlib.Core.Path.{_≡_, refl, sym, ap, _∙_}
 use Prim.Native.Nat.{ℕ, zero, suc, _+_, _-_, _≤_, _<_}
 use native.Mathlib.Numerals.{add-one}
 use native.Mathlib.Omega.{arith}
+use native.Mathlib.Decide.{ℕ-discrete}
 use borrow.Author.Tests.{ltb-false}
 use lib.Dec.{ltb}
-use Rattle.lists.specs.Choice.{Rule, _⇒_, firstRule, NoneApplies, FirstApplies, firstFrom, first}
+use Rattle.lists.specs.Choice.{Rule, _⇒_, firstRule, NoneApplies, FirstApplies, firstFrom, first, every}
+
+-- ---- two tests
+
+pub and-true : (a b : Bool) → (a && b) ≡ true → (a ≡ true) × (b ≡ true)
+and-true true b e = (refl, e)
+and-true false b e = let z : _≡_ {A = ℕ} 0 1 = cc in absurd (omega arith)
+
+pub true-and : (a b : Bool) → a ≡ true → b ≡ true → (a && b) ≡ true
+true-and a b e d = rw (e, d)
+
+pub and-last : (a : Bool) → (a && true) ≡ a
+and-last true = refl
+and-last false = refl
+
+pub or-false : (a b : Bool) → (a || b) ≡ false → (a ≡ false) × (b ≡ false)
+or-false true b e = let z : _≡_ {A = ℕ} 0 1 = cc in absurd (omega arith)
+or-false false b e = (refl, e)
+
+pub false-or : (a b : Bool) → a ≡ false → b ≡ false → (a || b) ≡ false
+false-or a b e d = rw (e, d)
+
+-- One or the other: the second, where the first does not.
+pub or-true : (a b : Bool) → (a || b) ≡ true → a ≡ false → b ≡ true
+or-true a b e d = rw d at e
+
+pub true-or : (a b : Bool) → (a ≡ false → b ≡ true) → (a || b) ≡ true
+true-or true b h = refl
+true-or false b h = h refl
+
+pub same-tests : (a b : Bool) → (a ≡ true → b ≡ true) → (b ≡ true → a ≡ true) → a ≡ b
+same-tests true b g h = sym (g refl)
+same-tests false true g h = h refl
+same-tests false false g h = refl
 
 -- ---- the first rule
 
@@ -51,6 +85,17 @@ applies-first say ((test ⇒ answer) ∷ rules) y x apart never e = go test e (a
 pub first-front : {X : Type 0} (rules more : List (Rule X)) (x : X) → FirstApplies rules x → FirstApplies (rules ++ more) x
 first-front [] more x f = absurd f
 first-front ((test ⇒ answer) ∷ rules) more x f = ⊎-elim (λ e. inl e) (λ e. inr (e .0, first-front rules more x (e .1))) f
+
+-- Whether every answer that the rules may give passes a test; the one that is given then does.
+abbrev pub everyAnswer : {X : Type 0} → (X → Bool) → List (Rule X) → Bool
+everyAnswer test [] = true
+everyAnswer test ((applies ⇒ answer) ∷ rules) = test answer && everyAnswer test rules
+
+pub answer-passes : {X : Type 0} (test : X → Bool) (rules : List (Rule X)) (x : X) → everyAnswer test rules ≡ true → FirstApplies rules x → test x ≡ true
+answer-passes test [] x e f = absurd f
+answer-passes test ((applies ⇒ answer) ∷ rules) x e f =
+    let both = and-true (test answer) (everyAnswer test rules) e in
+    ⊎-elim (λ h. ap test (sym (h .1)) ∙ both .0) (λ h. answer-passes test rules x (both .1) (h .1)) f
 
 -- ---- the first number that passes
 
@@ -98,8 +143,25 @@ none-passes n test e i h =
     let z : 0 + i ≡ i = omega arith in
     rw z at (tried 0 n test (omega arith) i h)
 
--- ---- both of two tests
+-- ---- every number
 
-pub and-true : (a b : Bool) → (a && b) ≡ true → (a ≡ true) × (b ≡ true)
-and-true true b e = (refl, e)
-and-true false b e = let z : _≡_ {A = ℕ} 0 1 = cc in absurd (omega arith)
+pub every-all : (n : ℕ) (test : ℕ → Bool) → every n test ≡ true → (i : ℕ) → i < n → test i ≡ true
+every-all zero test e i h = absurd (omega arith)
+every-all (suc n) test e i h = go (ℕ-discrete i n) (and-true (every n test) (test n) e) (every-all n test)
+  where
+    go : Dec (i ≡ n) → (every n test ≡ true) × (test n ≡ true) → (every n test ≡ true → (i : ℕ) → i < n → test i ≡ true) → test i ≡ true
+    go (yes q) both rest = rw q (both .1)
+    go (no q) both rest = rest (both .0) i (omega arith)
+
+pub all-every : (n : ℕ) (test : ℕ → Bool) → ((i : ℕ) → i < n → test i ≡ true) → every n test ≡ true
+all-every zero test h = refl
+all-every (suc n) test h =
+    true-and (every n test) (test n) (all-every n test (λ i k. h i (omega arith))) (h n (omega arith))
+
+-- Two tests that tell the same of each number below n.
+pub every-same : (n : ℕ) (one other : ℕ → Bool) → ((i : ℕ) → i < n → one i ≡ other i) → every n one ≡ every n other
+every-same zero one other h = refl
+every-same (suc n) one other h =
+    let rest : every n one ≡ every n other = every-same n one other (λ i k. h i (omega arith)) in
+    let here : one n ≡ other n = h n (omega arith) in
+    rw (here, rest)

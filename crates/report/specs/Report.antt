@@ -9,7 +9,7 @@ use Rattle.chart.specs.Geometry.{mostNodes, mostBlocks}
 use Rattle.chart.specs.Header.{headerIn}
 use Rattle.chart.specs.Layout.{chartLength}
 use Rattle.chart.specs.Refusals.{numberOf, placeOf}
-use Rattle.analysis.specs.AgesFlow.{allPasses}
+use Rattle.tables.specs.AgesFlow.{allPasses}
 use Rattle.analysis.specs.declared.Analysed.{Analysed}
 use Rattle.analysis.specs.declared.Analysed.the-variants.{Settled, Refused}
 use Rattle.analysis.specs.Analysis.{Buffers, Left, analysed}

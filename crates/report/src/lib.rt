@@ -1,1 +1,9 @@
-// The program's report, as text. Its definition; the code is not there yet.
+// The program's report, as text: from an answer of the analysis to the bytes that the program prints.
+mod input;
+mod lines;
+mod puts;
+mod text;
+
+pub use input::TAKEN;
+pub use input::report;
+pub use text::Text;

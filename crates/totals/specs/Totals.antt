@@ -13,7 +13,7 @@ use Rattle.chart.specs.Chart.{Chart, Read, accepted, refused, readChart, touche
 use Rattle.cache.specs.Ages.{Ages}
 use Rattle.flow.specs.Flow.{Cell, blank, holds, cellAt}
 use Rattle.analysis.specs.Class.{hit, miss, classesOf}
-use Rattle.analysis.specs.Lent.{Lent, tableOf, tableShort}
+use Rattle.tables.specs.Lent.{Lent, tableOf, tableShort}
 use Rattle.checker.specs.Checker.{passes, marked}
 use Rattle.totals.specs.declared.Totals.{Totals}
 use Rattle.totals.specs.declared.Totals.the-variants.{Between, Refused}

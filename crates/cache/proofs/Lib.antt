@@ -1,0 +1,5 @@
+pub mod Rows
+pub mod Order
+pub mod Touching
+pub mod Meeting
+pub mod Heights

@@ -1,0 +1,62 @@
+-- What the checker answers for any bytes: from the reader's verdict and the tests to `checked`.
+use Prim.Native.Nat.{ℕ, _*_}
+use mathlib.Core.Bool.{Bool, true, false, cond, _||_}
+use mathlib.Core.List.{List}
+use mathlib.Core.Path.{_≡_, refl, sym, _∙_}
+use lib.Dec.{ltb}
+use lib.ListN.{length, getD, take, replicate}
+use Rattle.lists.specs.Loops.{patch}
+use Rattle.chart.specs.declared.headers.Header.{Header}
+use Rattle.chart.specs.declared.refusals.Refusal.the-variants.{ShortBuffer}
+use Rattle.chart.specs.Geometry.{mostNodes, mostBlocks, setOf}
+use Rattle.chart.specs.Chart.{Chart, chartIn, nodeAt}
+use Rattle.tables.specs.Lent.{Lent, tableShort}
+use Rattle.tables.specs.Inner.{Roomy}
+use Rattle.tables.proofs.Laid.{long-enough}
+use Rattle.passes.specs.Plan.{Ready, columnBy}
+use Rattle.passes.proofs.Planning.{planned}
+use Rattle.checker.specs.declared.Checked.the-variants.{Passes, Fails, Refused}
+use Rattle.checker.specs.Checker.{passes, checked}
+use Rattle.chart.specs.Inner.{Found}
+use Rattle.passes.proofs.Planning.{found-shape, found-planned}
+
+module _ {bytes : List ℕ} {header : Header} {count : ℕ} {array : List ℕ} (found : Found bytes header count array) where
+  abbrev chart : Chart
+  chart = chartIn bytes
+
+  -- The plan that is made of them is ready.
+  pub plan-ready : Ready bytes (patch (replicate mostBlocks 0) 0 count (λ k. setOf (header .geometry) (getD array k 0)))
+      (patch (replicate mostNodes 0) 0 (header .nodes) (λ n. columnBy (header .geometry) (take count array) (nodeAt bytes n .what)))
+      (record { ways = header .geometry .ways; nodes = header .nodes; blocks = count })
+  plan-ready =
+      record {
+        read = found .read;
+        shaped = found-shape found;
+        planned = found-planned found _ _ refl refl;
+      }
+
+  module _ (lent : Lent) where
+    -- Whether the table is too short, as it is tested.
+    abbrev short : Bool
+    short =
+        ltb (length (lent .must)) (header .nodes * count)
+        || (ltb (length (lent .may)) (header .nodes * count) || ltb (length (lent .marks)) (header .nodes))
+
+    short-is : short ≡ tableShort chart lent
+    short-is = λ i.
+        ltb (length (lent .must)) (found .header-is i .nodes * found .count-is i)
+        || (ltb (length (lent .may)) (found .header-is i .nodes * found .count-is i) || ltb (length (lent .marks)) (found .header-is i .nodes))
+
+    pub short-answer : short ≡ true → Refused ShortBuffer ≡ checked bytes lent
+    unfolding checked
+    short-answer e = rw (found .read, ← short-is, e)
+
+    module _ (e : short ≡ false) where
+      pub roomy : Roomy (header .nodes) count (lent .must) (lent .may) (lent .marks)
+      roomy =
+          let long = long-enough chart lent (sym short-is ∙ e) in
+          rw (found .header-is, found .count-is) (record { must-room = long .0; may-room = long .1 .0; marks-room = long .1 .1 })
+
+      pub long-answer : (passing : Bool) → passing ≡ passes chart lent → cond passing Passes Fails ≡ checked bytes lent
+      unfolding checked
+      long-answer passing p = rw (found .read, ← short-is, e, p)

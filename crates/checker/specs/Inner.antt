@@ -1,0 +1,47 @@
+-- What the checker's functions promise one another: the tests of `Checker` on rows of so many blocks. Nothing here is document 01's.
+use Prim.Native.Nat.{ℕ}
+use mathlib.Core.Bool.{Bool, not, cond, _&&_, _||_}
+use mathlib.Core.List.{List}
+use lib.ListN.{replicate}
+use lib.Dec.{leb, eqb}
+use Rattle.lists.specs.Choice.{every}
+use Rattle.chart.specs.declared.headers.Start.{Start}
+use Rattle.chart.specs.Geometry.{mostBlocks}
+use Rattle.chart.specs.Chart.{Chart, arrows}
+use Rattle.cache.specs.Ages.{Ages, ageOf}
+use Rattle.rows.specs.declared.Row.{Row}
+use Rattle.tables.specs.AgesFlow.{agesFlow, isEmpty}
+use Rattle.tables.specs.Lent.{Lent, rowAt, agesAt}
+use Rattle.checker.specs.Checker.{marked, everyOf, allows}
+
+-- Whether the ages of row n are at most `most`, and whether they are 0.
+abbrev pub rowWithin : ℕ → List ℕ → List ℕ → ℕ → ℕ → Bool
+rowWithin blocks must may most n =
+    every blocks
+    (λ block. leb (ageOf (rowAt blocks must n) block) most && leb (ageOf (rowAt blocks may n) block) most)
+
+abbrev pub rowZero : ℕ → List ℕ → List ℕ → ℕ → Bool
+rowZero blocks must may n =
+    every blocks
+    (λ block. eqb (ageOf (rowAt blocks must n) block) 0 && eqb (ageOf (rowAt blocks may n) block) 0)
+
+-- Whether row t's must ages are no less and its may ages no more than these.
+abbrev pub rowNear : ℕ → Ages → List ℕ → List ℕ → ℕ → Bool
+rowNear blocks a must may t =
+    every blocks
+    (λ block.
+    leb (ageOf (a .must) block) (ageOf (rowAt blocks must t) block)
+    && leb (ageOf (rowAt blocks may t) block) (ageOf (a .may) block))
+
+abbrev pub rowAllows : ℕ → Ages → Lent → ℕ → Bool
+rowAllows blocks a lent t = marked lent t && rowNear blocks a (lent .must) (lent .may) t
+
+-- The start's ages, in every place of a row.
+abbrev pub startRow : Start → ℕ → Row
+startRow start ways =
+    record { must = replicate mostBlocks ways; may = replicate mostBlocks (cond (isEmpty start) ways 0) }
+
+-- Whether node n is not marked, or its targets allow its ages after its record.
+abbrev pub nodeAllows : Chart → Lent → ℕ → Bool
+nodeAllows chart lent n =
+    not (marked lent n) || everyOf (allows chart lent (agesFlow chart .step n (agesAt chart lent n))) (arrows chart n)

@@ -1,0 +1,130 @@
+-- The analysis of an accepted chart: when it gives 11, 12 or settles, what it then leaves, and that no buffer grows or shrinks.
+use Prim.Native.Nat.{ℕ}
+use mathlib.Core.Bool.{Bool, true, false, cond}
+use mathlib.Core.List.{List}
+use mathlib.Core.Path.{_≡_, refl, sym, ap, _∙_, subst}
+use native.Mathlib.Omega.{arith}
+use lib.ListN.{length, replicate, length-replicate}
+use Rattle.lists.proofs.Listed.{length-listOf}
+use Rattle.lists.proofs.Joined.{length-written}
+use Rattle.chart.specs.declared.refusals.Refusal.the-variants.{ShortBuffer, Unsettled}
+use Rattle.chart.specs.Chart.{Chart, Read, accepted, refused, readChart, blockCount}
+use Rattle.cache.specs.Ages.{Ages}
+use Rattle.flow.specs.Flow.{Cell}
+use Rattle.flow.specs.Pass.{Outcome, settled, spent, settle}
+use Rattle.flow.proofs.Ending.{settle-says, settle-spends}
+use Rattle.flow.proofs.Outcomes.{settle-spent}
+use Rattle.tables.specs.AgesFlow.{agesFlow}
+use Rattle.tables.specs.Lent.{Lent, agesUsed, marksUsed, lentOf}
+use Rattle.tables.proofs.Laid.{Shaped, must-laid, may-laid, marks-laid, long-enough}
+use Rattle.tables.proofs.Shaping.{afterPasses-shaped}
+use Rattle.analysis.specs.declared.Analysed.the-variants.{Settled, Refused}
+use Rattle.analysis.specs.Class.{tableClasses}
+use Rattle.analysis.proofs.Room.{room-parts}
+use Rattle.analysis.specs.Analysis.{Buffers, Left, tableIn, classesUsed, buffersShort, fill, zeroLent, filledBy, refuse, finish, analyseRead, analysed}
+use Rattle.demands.specs.Demand1.{AllChange, AnalysisRefusals, SameLengths}
+
+-- ---- what it answers
+
+module _ (bytes : List ℕ) (chart : Chart) (allowance : ℕ) (lent : Buffers) (read : readChart bytes ≡ accepted chart) where
+  answered : analysed bytes allowance lent ≡ cond (buffersShort chart lent) (refuse lent ShortBuffer) (finish chart allowance lent (settle (agesFlow chart) allowance))
+  unfolding analysed
+  answered = rw read
+
+  answered-short : buffersShort chart lent ≡ true → analysed bytes allowance lent ≡ refuse lent ShortBuffer
+  answered-short e = answered ∙ (rw e)
+
+  answered-outcome : buffersShort chart lent ≡ false → (o : Outcome Ages) → settle (agesFlow chart) allowance ≡ o → analysed bytes allowance lent ≡ finish chart allowance lent o
+  answered-outcome e o q = answered ∙ (rw (e, q))
+
+  -- An analysis that settled: with room, at this table, which it leaves.
+  pub record Done (passes blocks : ℕ) : Type 0 where
+    pub room : buffersShort chart lent ≡ false
+    pub table : List (Cell Ages)
+    pub outcome : settle (agesFlow chart) allowance ≡ settled passes table
+    pub counted : blocks ≡ blockCount chart
+    pub left : analysed bytes allowance lent ≡ record { answer = Settled passes (blockCount chart); buffers = filledBy chart table lent }
+
+  pub settled-done : (passes blocks : ℕ) → analysed bytes allowance lent .answer ≡ Settled passes blocks → Done passes blocks
+  unfolding finish
+  settled-done passes blocks e = go (buffersShort chart lent) refl (settle (agesFlow chart) allowance) refl
+    where
+      go : (short : Bool) → buffersShort chart lent ≡ short → (o : Outcome Ages) → settle (agesFlow chart) allowance ≡ o → Done passes blocks
+      go true s o q =
+          let says : analysed bytes allowance lent .answer ≡ Refused ShortBuffer = ap (λ (l : Left). l .answer) (answered-short s) in
+          let z : _≡_ {A = ℕ} 0 1 = cc in
+          absurd (omega arith)
+      go false s spent q =
+          let says : analysed bytes allowance lent .answer ≡ Refused (Unsettled allowance (blockCount chart)) = ap (λ (l : Left). l .answer) (answered-outcome s spent q) in
+          let z : _≡_ {A = ℕ} 0 1 = cc in
+          absurd (omega arith)
+      go false s (settled k U) q =
+          let says : analysed bytes allowance lent .answer ≡ Settled k (blockCount chart) = ap (λ (l : Left). l .answer) (answered-outcome s (settled k U) q) in
+          let made : k ≡ passes = cc in
+          let of : blocks ≡ blockCount chart = cc in
+          record {
+            room = s;
+            table = U;
+            outcome = q ∙ ap (λ (n : ℕ). settled n U) made;
+            counted = of;
+            left = answered-outcome s (settled k U) q ∙ ap (λ (n : ℕ). record { answer = Settled n (blockCount chart); buffers = filledBy chart U lent }) made;
+          }
+
+  pub done-settled : buffersShort chart lent ≡ false → (k : ℕ) (U : List (Cell Ages)) → settle (agesFlow chart) allowance ≡ settled k U
+      → analysed bytes allowance lent .answer ≡ Settled k (blockCount chart)
+  unfolding finish
+  done-settled room k U q = ap (λ (l : Left). l .answer) (answered-outcome room (settled k U) q)
+
+  pub analysis : AnalysisRefusals bytes chart allowance lent
+  unfolding finish
+  analysis =
+      record {
+        short = answered-short;
+        unsettled = λ room all. answered-outcome room spent (settle-spent (agesFlow chart) allowance all);
+        settled = λ room some. go room some (settle (agesFlow chart) allowance) refl;
+      }
+    where
+      go : buffersShort chart lent ≡ false → (AllChange chart allowance → ⊥)
+          → (o : Outcome Ages) → settle (agesFlow chart) allowance ≡ o → (passes : ℕ) × (analysed bytes allowance lent .answer ≡ Settled passes (blockCount chart))
+      go room some (settled k U) q = (k, done-settled room k U q)
+      go room some spent q = absurd (some (settle-spends (agesFlow chart) allowance q))
+
+-- ---- lengths
+
+unchanged : (lent : Buffers) → SameLengths lent lent
+unchanged lent = record { blocks = refl; must = refl; may = refl; marks = refl; classes = refl }
+
+module _ (chart : Chart) (lent : Buffers) (room : buffersShort chart lent ≡ false) where
+  filled-lengths : (table : Lent) (classes : List ℕ) → length (table .must) ≡ agesUsed chart → length (table .may) ≡ agesUsed chart → length (table .marks) ≡ marksUsed chart → length classes ≡ classesUsed chart
+      → SameLengths lent (fill chart table classes lent)
+  filled-lengths table classes must may marks of =
+      let parts = room-parts chart lent room in
+      let long = long-enough chart (tableIn lent) (parts .1 .0) in
+      record {
+        blocks = length-written (chart .blocks) (lent .blocks) (parts .0);
+        must = length-written (table .must) (lent .must) (omega (arith, long .0));
+        may = length-written (table .may) (lent .may) (omega (arith, long .1 .0));
+        marks = length-written (table .marks) (lent .marks) (omega (arith, long .1 .1));
+        classes = length-written classes (lent .classes) (omega (arith, parts .1 .1));
+      }
+
+  finished-lengths : (allowance : ℕ) (o : Outcome Ages) → settle (agesFlow chart) allowance ≡ o → SameLengths lent (finish chart allowance lent o .buffers)
+  unfolding finish
+  finished-lengths allowance (settled k U) q =
+      let shaped = subst (Shaped chart) (sym (settle-says (agesFlow chart) allowance k U q .table)) (afterPasses-shaped chart k) in
+      filled-lengths (lentOf chart U) (tableClasses chart U) (must-laid chart shaped) (may-laid chart shaped) (marks-laid chart shaped) (length-listOf (chart .header .nodes) _)
+  finished-lengths allowance spent q =
+      filled-lengths (zeroLent chart) (replicate (classesUsed chart) 0) (length-replicate _ _) (length-replicate _ _) (length-replicate _ _) (length-replicate _ _)
+
+pub same-lengths : (bytes : List ℕ) (allowance : ℕ) (lent : Buffers) → SameLengths lent (analysed bytes allowance lent .buffers)
+unfolding analysed
+same-lengths bytes allowance lent = go (readChart bytes)
+  where
+    room : (chart : Chart) (short : Bool) → buffersShort chart lent ≡ short
+        → SameLengths lent (cond short (refuse lent ShortBuffer) (finish chart allowance lent (settle (agesFlow chart) allowance)) .buffers)
+    room chart true e = unchanged lent
+    room chart false e = finished-lengths chart lent e allowance (settle (agesFlow chart) allowance) refl
+
+    go : (r : Read) → SameLengths lent (analyseRead allowance lent r .buffers)
+    go (accepted chart) = room chart (buffersShort chart lent) refl
+    go (refused refusal) = unchanged lent

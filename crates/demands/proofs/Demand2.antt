@@ -1,0 +1,137 @@
+-- Demand 2: the checker passes exactly the tables that meet the equations, and an analysis that settles leaves the tightest of them.
+use Prim.Native.Nat.{ℕ, _+_, _*_, _≤_}
+use mathlib.Core.Bool.{false}
+use mathlib.Core.List.{List}
+use mathlib.Core.Path.{_≡_, refl, sym, ap, _∙_, subst}
+use native.Mathlib.Nat.{mul-le-mul}
+use native.Mathlib.Omega.{arith}
+use lib.ListN.{length, replicate, length-replicate}
+use Rattle.chart.specs.Geometry.{mostNodes, mostBlocks, mostWays}
+use Rattle.chart.specs.Chart.{Chart, Read, accepted, refused, readChart, blockCount}
+use Rattle.chart.proofs.Accepted.{accepted-nodes, accepted-ways, accepted-few}
+use Rattle.cache.specs.Ages.{Ages}
+use Rattle.flow.specs.Flow.{Cell, cellAt}
+use Rattle.flow.specs.Passing.{Marked, Tightest}
+use Rattle.flow.specs.Pass.{settled}
+use Rattle.flow.proofs.Outcomes.{settle-agree}
+use Rattle.tables.specs.AgesFlow.{agesFlow, passesFor, mostPasses, allPasses}
+use Rattle.tables.specs.Lent.{agesUsed}
+use Rattle.tables.proofs.Laid.{Shaped, table-over, not-short, over-passes}
+use Rattle.tables.proofs.Shaping.{afterPasses-shaped}
+use Rattle.tables.proofs.Settled.{settles-within, settled-tightest, settled-passes, settled-made, settled-last, settled-earlier, settled-table, settled-marked}
+use Rattle.analysis.specs.declared.Analysed.the-variants.{Settled, Refused}
+use Rattle.analysis.specs.Analysis.{Buffers, Left, buffersShort, filledBy, tableIn, analysed}
+use Rattle.report.specs.Report.{taken, zeroBuffers}
+use Rattle.demands.specs.Demand2.{Settles, Demand2}
+use Rattle.demands.proofs.Refusals.{reading-refusals}
+use Rattle.demands.proofs.Checking.{checker-yes, yes-checker}
+use Rattle.analysis.proofs.Room.{room-parts, parts-room}
+use Rattle.demands.proofs.Analysing.{Done, settled-done, done-settled}
+
+-- ---- an analysis that settles
+
+module _ (bytes : List ℕ) (chart : Chart) (read : readChart bytes ≡ accepted chart) (allowance passes blocks : ℕ) (lent : Buffers) (done : Done bytes chart allowance lent read passes blocks) where
+  shaped : Shaped chart (done .table)
+  shaped =
+      subst (Shaped chart) (sym (settled-table bytes chart read allowance passes (done .table) (done .outcome))) (afterPasses-shaped chart passes)
+
+  tightest : Tightest (agesFlow chart) (done .table)
+  tightest = settled-tightest bytes chart read allowance passes (done .table) (done .outcome)
+
+  done-settles : Settles chart passes blocks lent (filledBy chart (done .table) lent)
+  done-settles =
+      let same = settled-table bytes chart read allowance passes (done .table) (done .outcome) in
+      let kept = table-over chart shaped (tableIn lent) in
+      let reach = settled-marked bytes chart read allowance passes (done .table) (done .outcome) in
+      record {
+        counted = done .counted;
+        made = settled-made bytes chart read allowance passes (done .table) (done .outcome);
+        last = settled-last bytes chart read allowance passes (done .table) (done .outcome);
+        earlier = settled-earlier bytes chart read allowance passes (done .table) (done .outcome);
+        count = settled-passes bytes chart read allowance passes (done .table) (done .outcome);
+        filled = ap (λ (T : List (Cell Ages)). filledBy chart T lent) same;
+        table = kept ∙ same;
+        table-passes = over-passes chart shaped (tightest .passes) (tableIn lent) (room-parts chart lent (done .room) .1 .0);
+        tightest = subst (Tightest (agesFlow chart)) (sym kept) tightest;
+        marked-reached = λ n m. reach n .0 (subst (λ (T : List (Cell Ages)). Marked (cellAt T n)) kept m);
+        reached-marked = λ n r. subst (λ (T : List (Cell Ages)). Marked (cellAt T n)) (sym kept) (reach n .1 r);
+      }
+
+settled-settles : (bytes : List ℕ) (chart : Chart) (allowance passes blocks : ℕ) (lent : Buffers) → readChart bytes ≡ accepted chart → analysed bytes allowance lent .answer ≡ Settled passes blocks
+    → Settles chart passes blocks lent (analysed bytes allowance lent .buffers)
+settled-settles bytes chart allowance passes blocks lent read e =
+    let done = settled-done bytes chart allowance lent read passes blocks e in
+    subst (Settles chart passes blocks lent) (ap (λ (l : Left). l .buffers) (sym (done .left))) (done-settles bytes chart read allowance passes blocks lent done)
+
+-- Bytes whose analysis settles hold an accepted chart.
+settled-accepted : (bytes : List ℕ) (allowance passes blocks : ℕ) (lent : Buffers) → analysed bytes allowance lent .answer ≡ Settled passes blocks
+    → (chart : Chart) × (readChart bytes ≡ accepted chart)
+settled-accepted bytes allowance passes blocks lent e = go (readChart bytes) refl
+  where
+    go : (r : Read) → readChart bytes ≡ r → (chart : Chart) × (readChart bytes ≡ accepted chart)
+    go (accepted chart) q = (chart, q)
+    go (refused refusal) q =
+        let says : analysed bytes allowance lent .answer ≡ Refused refusal = ap (λ (l : Left). l .answer) (reading-refusals .to-analysis bytes refusal allowance lent q) in
+        let z : _≡_ {A = ℕ} 0 1 = cc in
+        absurd (omega arith)
+
+settled-agree : (bytes : List ℕ) (one other passes passes′ blocks blocks′ : ℕ) (lent : Buffers) → analysed bytes one lent .answer ≡ Settled passes blocks → analysed bytes other lent .answer ≡ Settled passes′ blocks′
+    → analysed bytes one lent ≡ analysed bytes other lent
+settled-agree bytes one other passes passes′ blocks blocks′ lent d e =
+    let found = settled-accepted bytes one passes blocks lent d in
+    let chart : Chart = found .0 in
+    let first = settled-done bytes chart one lent (found .1) passes blocks d in
+    let second = settled-done bytes chart other lent (found .1) passes′ blocks′ e in
+    let same = settle-agree (agesFlow chart) one other passes passes′ (first .table) (second .table) (first .outcome) (second .outcome) in
+    first .left
+    ∙ (λ i. record { answer = Settled (same .0 i) (blockCount chart); buffers = filledBy chart (same .1 i) lent })
+    ∙ sym (second .left)
+
+-- ---- an allowance that is enough
+
+settles-enough : (bytes : List ℕ) (chart : Chart) (allowance : ℕ) (lent : Buffers) → readChart bytes ≡ accepted chart → buffersShort chart lent ≡ false → mostPasses chart ≤ allowance
+    → (passes : ℕ) × (analysed bytes allowance lent .answer ≡ Settled passes (blockCount chart))
+settles-enough bytes chart allowance lent read room h =
+    let done = settles-within bytes chart read allowance h in
+    (done .0, done-settled bytes chart allowance lent read room (done .0) (done .1) (done .2))
+
+passes-grow : (nodes nodes′ blocks blocks′ ways ways′ : ℕ) → nodes ≤ nodes′ → blocks ≤ blocks′ → ways ≤ ways′ → passesFor nodes blocks ways ≤ passesFor nodes′ blocks′ ways′
+passes-grow nodes nodes′ blocks blocks′ ways ways′ n b w =
+    let twice : 2 * blocks ≤ 2 * blocks′ = omega arith in
+    let each : 1 + 2 * blocks * ways ≤ 1 + 2 * blocks′ * ways′ = omega (arith, mul-le-mul twice w) in
+    omega (arith, mul-le-mul n each)
+
+-- Buffers of zeros for as many nodes and blocks as the chart has, or more, have room.
+zeros-room : (chart : Chart) (nodes blocks : ℕ) → chart .header .nodes ≤ nodes → blockCount chart ≤ blocks → buffersShort chart (zeroBuffers nodes blocks) ≡ false
+zeros-room chart nodes blocks n b =
+    let ages : agesUsed chart ≤ nodes * blocks = mul-le-mul n b in
+    parts-room chart (zeroBuffers nodes blocks) (room blocks (blockCount chart) b)
+    (not-short chart (tableIn (zeroBuffers nodes blocks)) (room (nodes * blocks) (agesUsed chart) ages) (room (nodes * blocks) (agesUsed chart) ages) (room nodes (chart .header .nodes) n))
+    (room nodes (chart .header .nodes) n)
+  where
+    room : (size used : ℕ) → used ≤ size → used ≤ length (replicate {A = ℕ} size 0)
+    room size used h = omega (arith, length-replicate {A = ℕ} size 0)
+
+program-enough : (bytes : List ℕ) (chart : Chart) → readChart bytes ≡ accepted chart
+    → (passes : ℕ) × (analysed bytes allPasses (zeroBuffers mostNodes mostBlocks) .answer ≡ Settled passes (blockCount chart))
+program-enough bytes chart read =
+    let nodes = accepted-nodes bytes chart read in
+    let few = accepted-few bytes chart read in
+    settles-enough bytes chart allPasses (zeroBuffers mostNodes mostBlocks) read (zeros-room chart mostNodes mostBlocks nodes few)
+    (passes-grow (chart .header .nodes) mostNodes (blockCount chart) mostBlocks (chart .header .geometry .ways) mostWays nodes few (accepted-ways bytes chart read .1))
+
+-- ---- the demand
+
+pub demand2 : Demand2
+demand2 =
+    record {
+      checker-yes = checker-yes;
+      yes-checker = yes-checker;
+      settled = settled-settles;
+      settled-yes = λ bytes allowance passes blocks lent e.
+          let found = settled-accepted bytes allowance passes blocks lent e in
+          yes-checker bytes (found .0) (tableIn (analysed bytes allowance lent .buffers)) (found .1) (settled-settles bytes (found .0) allowance passes blocks lent (found .1) e .table-passes);
+      enough = settles-enough;
+      program-settles = λ input. program-enough (taken input);
+      agree = settled-agree;
+    }

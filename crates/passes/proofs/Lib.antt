@@ -1,0 +1,4 @@
+pub mod Planning
+pub mod Readied
+pub mod Visits
+pub mod Runs

@@ -1,0 +1,5 @@
+pub mod Putting
+pub mod Digits
+pub mod Parts
+pub mod Zeros
+pub mod Inputs

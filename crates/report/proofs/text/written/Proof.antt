@@ -1,0 +1,48 @@
+use borrow.Author.Needs.{needs}
+use native.Mathlib.Omega.{arith}
+use Rattle.report.proofs.Zeros.{report-put}
+use Rattle.report.proofs.text.written.Statement.{statement}
+use Rattle.report.proofs.text.written.Tie as tie
+
+enum-known-answer : tie.Need-enum-known-answer
+enum-known-answer c = search needs
+
+slice-aggregate-put-settled : tie.Need-slice-aggregate-put-settled
+slice-aggregate-put-settled c = search needs
+
+put-settled-requires : tie.Need-put-settled-requires
+put-settled-requires c κs = search needs
+
+enum-known-answer-2 : tie.Need-enum-known-answer-2
+enum-known-answer-2 c = search needs
+
+slice-aggregate-put-refused : tie.Need-slice-aggregate-put-refused
+slice-aggregate-put-refused c = search needs
+
+put-refused-requires : tie.Need-put-refused-requires
+put-refused-requires c κs = search needs
+
+returns : tie.Need-returns
+returns c =
+    let b = c .before .before .before .before in
+    let a = b .before .before .before .args in
+    (report-put (a .nodes) (a .classes .now) (a .answer) _ (b .answer .given .1) (c .before .put-settled .ensures) (omega arith), omega arith)
+
+returns-2 : tie.Need-returns-2
+returns-2 c =
+    let b = c .before .before .before .before in
+    let a = b .before .before .before .args in
+    (report-put (a .nodes) (a .classes .now) (a .answer) _ (b .answer2 .given .1) (c .before .put-refused .ensures) (omega arith), omega arith)
+
+pub written-spec : {M : Type 1} → statement M
+written-spec =
+    tie.close
+    (tie.spec
+    enum-known-answer
+    slice-aggregate-put-settled
+    put-settled-requires
+    enum-known-answer-2
+    slice-aggregate-put-refused
+    put-refused-requires
+    returns
+    returns-2)

@@ -1,0 +1,68 @@
+// The report of any input.
+ghost use mathlib.Core.Path.{_≡_};
+ghost use Prim.Native.Nat.{_≤_};
+ghost use Rattle.chart.specs.Geometry.{mostNodes, mostBlocks};
+ghost use Rattle.chart.specs.Header.{headerRead};
+ghost use Rattle.tables.specs.AgesFlow.{allPasses};
+ghost use Rattle.analysis.specs.Analysis.{analysed};
+ghost use Rattle.report.specs.Report.{zeroBuffers, reportLeft, report as defined};
+ghost use Rattle.report.specs.Written.{mostText, textOf, nodesRead};
+use crate::text::Text;
+use crate::text::written;
+use chart::Geometry;
+use chart::HeaderRead;
+
+// The bytes of the longest chart, and one more, which tells a longer input from it.
+pub const TAKEN: usize = 8 + 8 * Geometry::NODES + 1;
+
+// The ages of the largest chart.
+const AGES: usize = Geometry::NODES * Geometry::BLOCKS;
+
+// The passes that are enough for every chart.
+const PASSES: usize = Geometry::NODES * (1 + 2 * Geometry::BLOCKS * Geometry::WAYS as usize) + 1;
+
+// The number of nodes in the header of any bytes, or 0 where it is refused.
+fn nodes_of(chart: &[u8]) -> usize
+    ensures { λ r. ⌜ (r ≤ mostNodes) × (r ≡ nodesRead (headerRead (now (chart .entry)))) ⌝ }
+{
+    let read = chart::read_header(chart);
+    match read {
+        HeaderRead::Accepted(header) => header.nodes,
+        HeaderRead::Refused(_) => 0,
+    }
+}
+
+// The report of any bytes, analysed in buffers of zeros for the largest chart.
+fn report_bytes(chart: &[u8]) -> Text
+    ensures { λ r. ⌜ r ≡ textOf (reportLeft (now (chart .entry)) (analysed (now (chart .entry)) allPasses (zeroBuffers mostNodes mostBlocks))) ⌝ }
+    ensures { λ r. ⌜ r .size ≤ mostText ⌝ }
+{
+    let mut blocks = [0u32; Geometry::BLOCKS];
+    let mut must = [0u8; AGES];
+    let mut may = [0u8; AGES];
+    let mut marks = [0u8; Geometry::NODES];
+    let mut classes = [0u8; Geometry::NODES];
+    let answer = analysis::analyse(
+        chart,
+        PASSES,
+        &mut blocks,
+        &mut must,
+        &mut may,
+        &mut marks,
+        &mut classes,
+    );
+    let nodes = nodes_of(chart);
+    written(nodes, &classes, answer)
+}
+
+// The report of any input: of its first 2,057 bytes, within 262,401 passes.
+pub fn report(input: &[u8]) -> Text
+    ensures { λ r. ⌜ r ≡ textOf (defined (now (input .entry))) ⌝ }
+    ensures { λ r. ⌜ r .size ≤ mostText ⌝ }
+{
+    let size = input.len();
+    if size <= TAKEN {
+        return report_bytes(input);
+    }
+    report_bytes(&input[..TAKEN])
+}

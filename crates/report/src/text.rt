@@ -1,0 +1,55 @@
+// The report as a value: its bytes in an array, and how many there are.
+ghost use mathlib.Core.Path.{_≡_};
+ghost use Prim.Native.Nat.{_≤_};
+ghost use lib.ListN.{length};
+ghost use Rattle.chart.specs.Geometry.{mostNodes};
+ghost use Rattle.report.specs.Report.{reportOf};
+ghost use Rattle.report.specs.Written.{mostText, textOf};
+use crate::lines::put_refused;
+use crate::lines::put_settled;
+use analysis::Analysed;
+use chart::Geometry;
+
+// The text stands at the start of the array, zeros after it.
+pub struct Text {
+    pub bytes: [u8; Text::MOST],
+    pub size: usize,
+}
+
+impl Text {
+    // The most digits of a number.
+    pub(crate) const DIGITS: usize = 20;
+
+    // The most bytes of a settled chart's first line, with three numbers.
+    const FIRST: usize = 23 + 3 * Text::DIGITS;
+
+    // The most bytes of a node's line, with a number and a class of at most 9 letters.
+    const NODE: usize = Text::DIGITS + 9 + 2;
+
+    // The most bytes of a report.
+    pub const MOST: usize = Text::FIRST + Text::NODE * Geometry::NODES;
+}
+
+// The report of an analysis that gave this answer and these classes for a chart of so many nodes.
+pub(crate) fn written(nodes: usize, classes: &[u8], answer: Analysed) -> Text
+    requires { ⌜ nodes ≤ mostNodes ⌝ }
+    requires { ⌜ nodes ≤ length (now classes) ⌝ }
+    ensures { λ r. ⌜ r ≡ textOf (reportOf nodes (now (classes .entry)) answer) ⌝ }
+    ensures { λ r. ⌜ r .size ≤ mostText ⌝ }
+{
+    let mut bytes = [0u8; Text::MOST];
+    let size = match answer {
+        Analysed::Settled { passes, blocks } => put_settled(
+            &mut bytes,
+            nodes,
+            classes,
+            passes,
+            blocks,
+        ),
+        Analysed::Refused(refusal) => put_refused(&mut bytes, refusal),
+    };
+    Text {
+        bytes: bytes,
+        size: size,
+    }
+}

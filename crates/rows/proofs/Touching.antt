@@ -1,0 +1,24 @@
+-- What a loop over the columns of a row makes of it is the row after a touch.
+use mathlib.Core.Bool.{cond}
+use mathlib.Core.List.{List}
+use mathlib.Core.Path.{_≡_, ap, _∙_}
+use Prim.Native.Nat.{ℕ, _<_}
+use lib.ListN.{length, getD, set}
+use lib.Dec.{eqb}
+use Rattle.lists.specs.Lists.{listOf}
+use Rattle.lists.specs.Loops.{patch}
+use Rattle.lists.proofs.Loops.{patch-whole, patch-but}
+
+-- `grow h a`: the age of another block of the set, where the touched block's is h.
+module _ (keys : List ℕ) (m : ℕ) (grow : ℕ → ℕ → ℕ) (row : List ℕ) (inside : m < length row) where
+  abbrev pub grown : ℕ → ℕ
+  grown j = cond (eqb (getD keys j 0) (getD keys m 0)) (grow (getD row m 0) (getD row j 0)) (getD row j 0)
+
+  abbrev pub touchedAge : ℕ → ℕ
+  touchedAge j = cond (eqb j m) 0 (grown j)
+
+  pub touched-row : (out : List ℕ) (j : ℕ) → out ≡ patch row 0 j grown → j ≡ length row → set out m 0 ≡ listOf (length row) touchedAge
+  touched-row out j e end =
+      ap (λ (l : List ℕ). set l m 0) (e ∙ ap (λ (k : ℕ). patch row 0 k grown) end)
+      ∙ patch-but row (length row) grown m 0 inside
+      ∙ patch-whole row touchedAge

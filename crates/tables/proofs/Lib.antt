@@ -1,0 +1,6 @@
+pub mod Laid
+pub mod Shaping
+pub mod Stepping
+pub mod Ageing
+pub mod Settled
+pub mod Meeting

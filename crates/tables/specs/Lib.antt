@@ -1,0 +1,3 @@
+pub mod AgesFlow
+pub mod Lent
+pub mod Inner

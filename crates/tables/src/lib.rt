@@ -1,0 +1,132 @@
+// Tables of ages in lent buffers: a row loaded, or met into what is there.
+ghost use mathlib.Core.Path.{_≡_};
+ghost use Prim.Native.Nat.{_+_, _*_, _≤_, _<_, max, min};
+ghost use lib.ListN.{length, getD};
+ghost use Rattle.lists.specs.Loops.{patch};
+ghost use Rattle.cache.specs.Ages.{Ages, ageOf};
+ghost use Rattle.tables.specs.Lent.{Lent};
+ghost use Rattle.tables.specs.Inner.{LentRun, Roomy, loaded, loadedRow, larger, anyLarger, smaller, anySmaller, metInto};
+use chart::Geometry;
+use rows::Row;
+
+// What stands from a place on, as much as a row holds and there is, zeros after it. A whole row's length is fixed, and so its loop's.
+fn load(buffer: &[u8], base: usize) -> [u8; Geometry::BLOCKS]
+    requires { ⌜ base ≤ length (now buffer) ⌝ }
+    ensures { λ r. ⌜ r ≡ loaded base (now (buffer .entry)) ⌝ }
+{
+    let mut ages = [0u8; Geometry::BLOCKS];
+    let room = buffer.len() - base;
+    if room < Geometry::BLOCKS {
+        for j in 0..room {
+            ages[j] = buffer[base + j];
+        }
+        return ages;
+    }
+    for j in 0..Geometry::BLOCKS {
+        ages[j] = buffer[base + j];
+    }
+    ages
+}
+
+// Row n of a table of so many blocks, by value.
+pub fn load_row(must: &[u8], may: &[u8], blocks: usize, n: usize) -> Row
+    requires { ⌜ (n * blocks ≤ length (now must)) × (n * blocks ≤ length (now may)) ⌝ }
+    ensures { λ r. ⌜ r ≡ loadedRow blocks n (now (must .entry)) (now (may .entry)) ⌝ }
+{
+    let base = n * blocks;
+    let musts = load(must, base);
+    let mays = load(may, base);
+    Row {
+        must: musts,
+        may: mays,
+    }
+}
+
+// One value into so many places from `base` on.
+pub fn fill(buffer: &mut [u8], base: usize, count: usize, value: u8)
+    requires { ⌜ base + count ≤ length (now buffer) ⌝ }
+    ensures { λ r. ⌜ now (buffer .exit) ≡ patch (now (buffer .entry)) base count (λ j. value) ⌝ }
+{
+    for j in 0..count {
+        buffer[base + j] = value;
+    }
+}
+
+// The ages into the places from `base` on, as they are.
+fn put_ages(buffer: &mut [u8], base: usize, blocks: usize, ages: &[u8])
+    requires { ⌜ (blocks ≤ length (now ages)) × (base + blocks ≤ length (now buffer)) ⌝ }
+    ensures { λ r. ⌜ now (buffer .exit) ≡ patch (now (buffer .entry)) base blocks (ageOf (now (ages .entry))) ⌝ }
+{
+    for j in 0..blocks {
+        buffer[base + j] = ages[j];
+    }
+}
+
+fn larger_of(a: u8, b: u8) -> u8
+    ensures { λ r. ⌜ r ≡ max a b ⌝ }
+{
+    if a < b { b } else { a }
+}
+
+fn smaller_of(a: u8, b: u8) -> u8
+    ensures { λ r. ⌜ r ≡ min a b ⌝ }
+{
+    if b < a { b } else { a }
+}
+
+// The larger of each age and what stands there; `changed`, or whether anything grew.
+fn put_larger(buffer: &mut [u8], base: usize, blocks: usize, ages: &[u8], changed: bool) -> bool
+    requires { ⌜ (blocks ≤ length (now ages)) × (base + blocks ≤ length (now buffer)) ⌝ }
+    ensures { λ r. ⌜ (now (buffer .exit) ≡ larger base blocks (ageOf (now (ages .entry))) (now (buffer .entry))) × (r ≡ anyLarger changed base blocks (ageOf (now (ages .entry))) (now (buffer .entry))) ⌝ }
+{
+    let mut any = changed;
+    for j in 0..blocks {
+        let old = buffer[base + j];
+        let new = ages[j];
+        buffer[base + j] = larger_of(old, new);
+        any = any | (old < new);
+    }
+    any
+}
+
+// The smaller of each age and what stands there; `changed`, or whether anything fell.
+fn put_smaller(buffer: &mut [u8], base: usize, blocks: usize, ages: &[u8], changed: bool) -> bool
+    requires { ⌜ (blocks ≤ length (now ages)) × (base + blocks ≤ length (now buffer)) ⌝ }
+    ensures { λ r. ⌜ (now (buffer .exit) ≡ smaller base blocks (ageOf (now (ages .entry))) (now (buffer .entry))) × (r ≡ anySmaller changed base blocks (ageOf (now (ages .entry))) (now (buffer .entry))) ⌝ }
+{
+    let mut any = changed;
+    for j in 0..blocks {
+        let old = buffer[base + j];
+        let new = ages[j];
+        buffer[base + j] = smaller_of(old, new);
+        any = any | (new < old);
+    }
+    any
+}
+
+// Ages met into row n: the larger must ages and the smaller may ages, or the ages as they are where n is not marked, which is marked
+// then. `changed`, or whether anything changed.
+pub fn meet_row(
+    must: &mut [u8],
+    may: &mut [u8],
+    marks: &mut [u8],
+    blocks: usize,
+    n: usize,
+    musts: &[u8],
+    mays: &[u8],
+    changed: bool,
+) -> bool
+    requires { ⌜ (blocks ≤ length (now musts)) × ((blocks ≤ length (now mays)) × (n < length (now marks))) ⌝ }
+    requires { ⌜ (n * blocks + blocks ≤ length (now must)) × (n * blocks + blocks ≤ length (now may)) ⌝ }
+    ensures { λ r. ⌜ record { lent = record { must = now (must .exit); may = now (may .exit); marks = now (marks .exit) }; changed = r } ≡ metInto blocks n (record { must = now (musts .entry); may = now (mays .entry) }) (record { lent = record { must = now (must .entry); may = now (may .entry); marks = now (marks .entry) }; changed = changed }) ⌝ }
+{
+    let base = n * blocks;
+    if marks[n] == 0 {
+        put_ages(must, base, blocks, musts);
+        put_ages(may, base, blocks, mays);
+        marks[n] = 1;
+        return true;
+    }
+    let grown = put_larger(must, base, blocks, musts, changed);
+    put_smaller(may, base, blocks, mays, grown)
+}

@@ -1,0 +1,14 @@
+//! Charts as bytes: document 01's fields as plain numbers, allowed or not, and their packing.
+//!
+//! Nothing here knows which values are allowed, so that a test can build any damage it likes.
+
+mod chart;
+mod header;
+mod pack;
+pub mod random;
+pub mod random_charts;
+mod record;
+
+pub use chart::Chart;
+pub use header::Header;
+pub use record::Record;

@@ -1,0 +1,86 @@
+use crate::pack::pack;
+
+/// A record's fields in their order.
+#[derive(Clone, Copy, Debug, PartialEq)]
+pub struct Record {
+    pub kind: u64,
+    pub address: u64,
+    pub outs: u64,
+    pub first: u64,
+    pub second: u64,
+    pub spare: u64,
+}
+
+impl Record {
+    fn of(kind: u64, address: u64) -> Record {
+        Record {
+            kind,
+            address,
+            outs: 0,
+            first: 0,
+            second: 0,
+            spare: 0,
+        }
+    }
+
+    /// A bare step without arrows.
+    pub fn step() -> Record {
+        Record::of(0, 0)
+    }
+
+    /// A read without arrows.
+    pub fn read(address: u64) -> Record {
+        Record::of(1, address)
+    }
+
+    /// A write without arrows.
+    pub fn write(address: u64) -> Record {
+        Record::of(2, address)
+    }
+
+    /// The same with one arrow more.
+    pub fn to(self, target: u64) -> Record {
+        match self.outs {
+            0 => Record {
+                outs: 1,
+                first: target,
+                ..self
+            },
+            1 => Record {
+                outs: 2,
+                second: target,
+                ..self
+            },
+            _ => panic!("a record has two arrows at most"),
+        }
+    }
+
+    pub fn bytes(&self) -> [u8; 8] {
+        pack(&[
+            (2, self.kind),
+            (32, self.address),
+            (2, self.outs),
+            (12, self.first),
+            (12, self.second),
+            (4, self.spare),
+        ])
+    }
+}
+
+#[cfg(test)]
+mod tests {
+    use super::*;
+
+    #[test]
+    fn each_record_field_has_its_own_bits() {
+        let record = Record {
+            kind: 0b10,
+            address: 0x8000_0001,
+            outs: 0b01,
+            first: 0xABC,
+            second: 0xDEF,
+            spare: 0x5,
+        };
+        assert_eq!(record.bytes(), [0xA0, 0x00, 0x00, 0x00, 0x5A, 0xBC, 0xDE, 0xF5]);
+    }
+}

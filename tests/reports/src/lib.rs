@@ -1,0 +1,5 @@
+//! Running the proved program, and holding each report that it prints to the second program's, byte for byte.
+
+pub mod each;
+pub mod hold;
+pub mod program;

@@ -1,0 +1,99 @@
+//! Running the program.
+
+use std::env;
+use std::ffi::OsString;
+use std::io::Write;
+use std::path::{Path, PathBuf};
+use std::process::{Child, Command, Stdio};
+use std::thread;
+use std::time::{Duration, Instant};
+
+/// A file of the repository.
+pub fn file(name: &str) -> PathBuf {
+    Path::new(env!("CARGO_MANIFEST_DIR")).join("../..").join(name)
+}
+
+/// What starts the program under test: tests/program, unless VEILBUZZ_PROGRAM names something else, as the second program's binary.
+pub fn path() -> OsString {
+    if let Some(other) = env::var_os("VEILBUZZ_PROGRAM") {
+        return other;
+    }
+    assert!(
+        file("target/bin/veilbuzz").exists(),
+        "the program is not built: run 'rt check veilbuzz' (or ./tests/run, which does) and try again"
+    );
+    file("tests/program").into()
+}
+
+/// The command that runs the program, with its three streams piped.
+pub fn command() -> Command {
+    piped(Command::new(path()))
+}
+
+/// The command that runs the program after a line of shell, with its three streams piped.
+pub fn command_after(line: &str) -> Command {
+    let mut shell = Command::new("sh");
+    shell.arg("-c").arg(format!("{line}; exec \"$0\"")).arg(path());
+    piped(shell)
+}
+
+fn piped(mut command: Command) -> Command {
+    command
+        .stdin(Stdio::piped())
+        .stdout(Stdio::piped())
+        .stderr(Stdio::piped());
+    command
+}
+
+/// Starts a command.
+pub fn start(mut command: Command) -> Child {
+    command.spawn().expect("the program starts")
+}
+
+/// Hands bytes to a started program. It may stop reading before the last, which is no fault.
+pub fn hand(child: &mut Child, bytes: &[u8]) {
+    let _ = child.stdin.as_mut().expect("standard input is open").write_all(bytes);
+}
+
+/// Closes a started program's input, and answers all that it wrote.
+pub fn finish(mut child: Child) -> String {
+    drop(child.stdin.take());
+    let output = child.wait_with_output().expect("the program ends");
+    let said = String::from_utf8_lossy(&output.stderr);
+    assert!(
+        output.status.success() && said.is_empty(),
+        "the program ended with {}: {said}",
+        output.status
+    );
+    String::from_utf8(output.stdout).expect("the program writes ASCII")
+}
+
+/// What the program writes for an input.
+pub fn run(input: &[u8]) -> String {
+    answer(command(), input)
+}
+
+/// What a command that runs the program writes for an input.
+pub fn answer(command: Command, input: &[u8]) -> String {
+    let mut child = start(command);
+    hand(&mut child, input);
+    finish(child)
+}
+
+/// Whether a started program ends within ten seconds; one that does not is ended.
+pub fn ends(child: &mut Child) -> bool {
+    let last = Instant::now() + Duration::from_secs(10);
+    while Instant::now() < last {
+        if !runs(child) {
+            return true;
+        }
+        thread::sleep(Duration::from_millis(5));
+    }
+    child.kill().expect("the program can be ended");
+    false
+}
+
+/// Whether a started program has not ended yet.
+pub fn runs(child: &mut Child) -> bool {
+    child.try_wait().expect("the program can be asked").is_none()
+}

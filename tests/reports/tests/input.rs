@@ -1,0 +1,102 @@
+//! How the program takes its input.
+
+use charts::Chart;
+use reports::each::each;
+use reports::hold::{same, says};
+use reports::program::{command, command_after, ends, file, finish, hand, run, start};
+use std::fs::File;
+use std::thread::sleep;
+use std::time::Duration;
+
+/// The longest chart, with zeros after it up to a size.
+fn longest(size: usize) -> Vec<u8> {
+    let mut bytes = Chart::steps(256).bytes();
+    bytes.resize(size, 0);
+    bytes
+}
+
+#[test]
+fn an_input_longer_than_any_chart_gets_the_answer_for_its_first_2057_bytes() {
+    each(
+        &[2_057, 2_058, 2_064, 4_096, 6_153, 6_154, 70_000, 1_000_000],
+        |&size| {
+            says(&longest(size), "refused 8 at 0");
+        },
+    );
+}
+
+#[test]
+fn a_longer_input_is_still_held_to_its_header_first() {
+    let mut bytes = longest(10_000);
+    bytes[0] = 2;
+    says(&bytes, "refused 2 at 0");
+    says(&Chart::steps(300).bytes(), "refused 5 at 0");
+}
+
+#[test]
+fn what_stands_past_the_2057_bytes_changes_nothing() {
+    let mut bytes = longest(5_000);
+    bytes[2_057..].fill(255);
+    says(&bytes, "refused 8 at 0");
+}
+
+#[test]
+fn an_input_that_comes_in_single_bytes_is_read_whole() {
+    let mut broken = Chart::sample();
+    broken.records[2].spare = 1;
+    let cases = [
+        Chart::sample().bytes(),
+        broken.bytes(),
+        Chart::sample().bytes()[..31].to_vec(),
+        Chart::sample().bytes()[..7].to_vec(),
+    ];
+    each(&cases, |bytes| {
+        let mut child = start(command());
+        for byte in bytes {
+            sleep(Duration::from_millis(5));
+            hand(&mut child, &[*byte]);
+        }
+        sleep(Duration::from_millis(50));
+        same(&finish(child), bytes);
+    });
+}
+
+#[test]
+fn an_input_that_comes_in_uneven_parts_is_read_whole() {
+    each(&[2_056, 2_057], |&size| {
+        let mut child = start(command());
+        for part in longest(size).chunks(97) {
+            sleep(Duration::from_millis(2));
+            hand(&mut child, part);
+        }
+        same(&finish(child), &longest(size));
+    });
+}
+
+#[test]
+fn an_input_closed_at_once_is_no_bytes() {
+    assert_eq!(run(b""), "refused 1 at 0\n");
+    assert_eq!(finish(start(command())), "refused 1 at 0\n");
+}
+
+#[test]
+fn an_input_that_is_not_open_is_no_bytes() {
+    let child = start(command_after("exec <&-"));
+    assert_eq!(finish(child), "refused 1 at 0\n");
+}
+
+#[test]
+fn the_program_answers_after_2057_bytes_though_the_input_stays_open() {
+    let mut child = start(command());
+    hand(&mut child, &longest(2_057));
+    assert!(ends(&mut child), "the program waits for more than 2,057 bytes");
+    assert_eq!(finish(child), "refused 8 at 0\n");
+}
+
+#[test]
+fn a_read_that_fails_ends_the_input() {
+    let folder = File::open(file("charts")).expect("the folder charts/ is there");
+    let mut command = command();
+    command.stdin(folder);
+    assert_eq!(finish(start(command)), "refused 1 at 0\n");
+}

@@ -1,0 +1,46 @@
+//! The number of passes: few, many, and as many as the largest charts take.
+
+use charts::{Chart, Record};
+use reports::each::each;
+use reports::hold::{agrees, says};
+
+/// So many reads of 64 blocks in turn, each leading to the node below; the last is the entry.
+fn backward(nodes: usize) -> Chart {
+    let addresses: Vec<u64> = (0..nodes as u64).map(|node| node % 64 * 16).collect();
+    let mut chart = Chart::reads(&addresses);
+    for node in 1..nodes {
+        chart.records[node] = chart.records[node].to(node as u64 - 1);
+    }
+    chart.header.entry = nodes as u64 - 1;
+    chart
+}
+
+#[test]
+fn one_node_takes_one_pass() {
+    says(&Chart::steps(1).bytes(), "nodes 1 blocks 0 passes 1\n0 none");
+}
+
+#[test]
+fn a_change_goes_backward_one_node_in_a_pass() {
+    let mut chart = Chart::of(vec![Record::step(), Record::step().to(0), Record::step().to(1)]);
+    chart.header.entry = 2;
+    says(&chart.bytes(), "nodes 3 blocks 0 passes 3\n0 none\n1 none\n2 none");
+}
+
+#[test]
+fn backward_chains_of_any_length_agree() {
+    each(&[1, 2, 63, 64, 65, 255, 256], |&nodes| {
+        agrees(&backward(nodes).shaped(0, 8, 1).bytes());
+        agrees(&backward(nodes).shaped(2, 4, 0).bytes());
+    });
+}
+
+#[test]
+fn a_backward_ring_agrees() {
+    each(&[(0, 8), (2, 8), (6, 1)], |&(sets, ways)| {
+        let mut chart = backward(256).shaped(sets, ways, 1);
+        chart.records[0] = chart.records[0].to(255);
+        chart.records[128] = chart.records[128].to(200);
+        agrees(&chart.bytes());
+    });
+}

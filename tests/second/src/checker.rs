@@ -1,0 +1,82 @@
+//! Whether a lent table passes.
+
+use crate::chart::Chart;
+use crate::refusal::Refusal;
+use crate::state::State;
+
+/// A table that a caller lends to be read. What is longer than used is not looked at.
+#[derive(Clone, Copy)]
+pub struct Lent<'a> {
+    pub must: &'a [u8],
+    pub may: &'a [u8],
+    pub marks: &'a [u8],
+}
+
+/// Yes or no, or one of refusals 1 to 11.
+pub fn check(bytes: &[u8], lent: Lent) -> Result<bool, Refusal> {
+    let chart = Chart::read(bytes)?;
+    let lent = used(&chart, lent).ok_or(Refusal::of(11))?;
+    Ok(in_range(&chart, lent) && unmarked_rows_are_zero(&chart, lent) && covers(&chart, lent))
+}
+
+fn used<'a>(chart: &Chart, lent: Lent<'a>) -> Option<Lent<'a>> {
+    let ages = chart.nodes.len() * chart.blocks.len();
+    Some(Lent {
+        must: lent.must.get(..ages)?,
+        may: lent.may.get(..ages)?,
+        marks: lent.marks.get(..chart.nodes.len())?,
+    })
+}
+
+impl<'a> Lent<'a> {
+    fn rows(self, chart: &Chart, node: usize) -> (&'a [u8], &'a [u8]) {
+        let blocks = chart.blocks.len();
+        let row = node * blocks..(node + 1) * blocks;
+        (&self.must[row.clone()], &self.may[row])
+    }
+}
+
+fn in_range(chart: &Chart, lent: Lent) -> bool {
+    let most = chart.ways();
+    lent.marks.iter().all(|&mark| mark <= 1)
+        && lent.must.iter().all(|&age| age <= most)
+        && lent.may.iter().all(|&age| age <= most)
+}
+
+fn unmarked_rows_are_zero(chart: &Chart, lent: Lent) -> bool {
+    (0..chart.nodes.len())
+        .filter(|&node| lent.marks[node] == 0)
+        .all(|node| {
+            let (must, may) = lent.rows(chart, node);
+            must.iter().chain(may).all(|&age| age == 0)
+        })
+}
+
+/// Whether the entry covers the start, and each arrow's target what its source becomes.
+fn covers(chart: &Chart, lent: Lent) -> bool {
+    let mut after = State::start(chart);
+    if !holds(chart, lent, chart.header.entry, &after) {
+        return false;
+    }
+    chart
+        .nodes
+        .iter()
+        .enumerate()
+        .filter(|&(number, _)| lent.marks[number] == 1)
+        .all(|(number, node)| {
+            let (must, may) = lent.rows(chart, number);
+            after.pass_through(chart, node, must, may);
+            node.arrows
+                .targets()
+                .iter()
+                .all(|&target| holds(chart, lent, target, &after))
+        })
+}
+
+/// Whether a node is marked, with must ages no less and may ages no more than the state's.
+fn holds(chart: &Chart, lent: Lent, node: usize, state: &State) -> bool {
+    let (must, may) = lent.rows(chart, node);
+    lent.marks[node] == 1
+        && must.iter().zip(&state.must).all(|(age, least)| age >= least)
+        && may.iter().zip(&state.may).all(|(age, most)| age <= most)
+}

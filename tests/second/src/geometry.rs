@@ -1,0 +1,26 @@
+/// The shape of a cache: lines of 2^`line` bytes, 2^`sets` sets, `ways` blocks in a set.
+#[derive(Clone, Copy, Debug, PartialEq, Eq)]
+pub struct Geometry {
+    pub line: u32,
+    pub sets: u32,
+    pub ways: u8,
+}
+
+impl Geometry {
+    pub const NODES: usize = 256;
+    pub const BLOCKS: usize = 64;
+    pub const WAYS: usize = 8;
+
+    pub fn allowed(&self) -> bool {
+        (2..=8).contains(&self.line) && self.sets <= 8 && (1..=Geometry::WAYS).contains(&usize::from(self.ways))
+    }
+
+    pub fn block_of(&self, address: u32) -> u32 {
+        address >> self.line
+    }
+
+    /// At most 256 sets, so that a set's number fits a byte.
+    pub fn set_of(&self, block: u32) -> u8 {
+        (block % (1 << self.sets)) as u8
+    }
+}

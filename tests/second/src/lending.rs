@@ -1,0 +1,52 @@
+use crate::analysis::{analyse, Analysed, Buffers};
+use crate::checker::{check, Lent};
+use crate::geometry::Geometry;
+use crate::refusal::Refusal;
+
+/// Buffers of one's own, to lend to an analysis or to the checker.
+#[derive(Clone, Debug, PartialEq, Eq)]
+pub struct Lending {
+    pub blocks: Vec<u32>,
+    pub must: Vec<u8>,
+    pub may: Vec<u8>,
+    pub marks: Vec<u8>,
+    pub classes: Vec<u8>,
+}
+
+impl Lending {
+    /// Room for so many blocks and nodes, all of one byte, so that what is not written can be seen.
+    pub fn of(blocks: usize, nodes: usize, byte: u8) -> Lending {
+        Lending {
+            blocks: vec![u32::from(byte); blocks],
+            must: vec![byte; nodes * blocks],
+            may: vec![byte; nodes * blocks],
+            marks: vec![byte; nodes],
+            classes: vec![byte; nodes],
+        }
+    }
+
+    /// Zeros, with room for the largest chart.
+    pub fn largest() -> Lending {
+        Lending::of(Geometry::BLOCKS, Geometry::NODES, 0)
+    }
+
+    pub fn analyse(&mut self, chart: &[u8], allowance: usize) -> Analysed {
+        let buffers = Buffers {
+            blocks: &mut self.blocks,
+            must: &mut self.must,
+            may: &mut self.may,
+            marks: &mut self.marks,
+            classes: &mut self.classes,
+        };
+        analyse(chart, allowance, buffers)
+    }
+
+    pub fn check(&self, chart: &[u8]) -> Result<bool, Refusal> {
+        let lent = Lent {
+            must: &self.must,
+            may: &self.may,
+            marks: &self.marks,
+        };
+        check(chart, lent)
+    }
+}

@@ -1,0 +1,18 @@
+//! The second program: document 01 in ordinary Rust, written from that paper alone and from nothing of the proved sources, so that
+//! the two share no mistake. The tests hold the proved program to it, and the measurement times the proved analysis against it.
+
+pub mod ages;
+pub mod analysis;
+pub mod chart;
+pub mod checker;
+pub mod class;
+pub mod fields;
+pub mod geometry;
+pub mod header;
+pub mod lending;
+pub mod passes;
+pub mod record;
+pub mod refusal;
+pub mod report;
+pub mod state;
+pub mod table;

@@ -1,0 +1,26 @@
+use std::fmt;
+
+/// A row of document 01's table "When the tool says no": its number, and the place that it names.
+#[derive(Clone, Copy, Debug, PartialEq, Eq)]
+pub struct Refusal {
+    pub number: usize,
+    pub place: usize,
+}
+
+impl Refusal {
+    /// A refusal that names no node.
+    pub fn of(number: usize) -> Refusal {
+        Refusal { number, place: 0 }
+    }
+
+    /// A refusal of a node.
+    pub fn at(number: usize, place: usize) -> Refusal {
+        Refusal { number, place }
+    }
+}
+
+impl fmt::Display for Refusal {
+    fn fmt(&self, text: &mut fmt::Formatter) -> fmt::Result {
+        write!(text, "refused {} at {}", self.number, self.place)
+    }
+}

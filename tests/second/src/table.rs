@@ -1,0 +1,41 @@
+use crate::ages;
+use crate::state::State;
+use std::ops::Range;
+
+/// A table over lent buffers of just its size: a mark for each node, and two ages for each node and block, row after row.
+pub struct Table<'a> {
+    pub blocks: usize,
+    pub must: &'a mut [u8],
+    pub may: &'a mut [u8],
+    pub marks: &'a mut [u8],
+}
+
+impl Table<'_> {
+    /// Where a node's row stands.
+    pub fn row(&self, node: usize) -> Range<usize> {
+        node * self.blocks..(node + 1) * self.blocks
+    }
+
+    pub fn marked(&self, node: usize) -> bool {
+        self.marks[node] == 1
+    }
+
+    pub fn clear(&mut self) {
+        self.must.fill(0);
+        self.may.fill(0);
+        self.marks.fill(0);
+    }
+
+    /// Meets a state into a node. An unmarked one takes it as it is and is marked. Whether anything changed.
+    pub fn meet(&mut self, node: usize, state: &State) -> bool {
+        let row = self.row(node);
+        let (must, may) = (&mut self.must[row.clone()], &mut self.may[row]);
+        if self.marks[node] == 0 {
+            must.copy_from_slice(&state.must);
+            may.copy_from_slice(&state.may);
+            self.marks[node] = 1;
+            return true;
+        }
+        ages::meet_must(must, &state.must) | ages::meet_may(may, &state.may)
+    }
+}

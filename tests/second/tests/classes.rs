@@ -1,0 +1,33 @@
+//! Document 01's soundings of straight charts: three reads, 16-byte lines, entry 0, an arrow from each to the next.
+
+use charts::Chart;
+use second::lending::Lending;
+use second::report::ALLOWANCE;
+
+const UNKNOWN: u64 = 0;
+const EMPTY: u64 = 1;
+
+/// The classes of three reads in a row.
+fn classes(addresses: [u64; 3], sets: u64, ways: u64, start: u64) -> Vec<u8> {
+    let mut lending = Lending::largest();
+    let chart = Chart::straight(&addresses).shaped(sets, ways, start);
+    lending.analyse(&chart.bytes(), ALLOWANCE);
+    lending.classes[..3].to_vec()
+}
+
+#[test]
+fn one_set_of_two_ways() {
+    assert_eq!(classes([0x00, 0x10, 0x00], 0, 2, UNKNOWN), [3, 3, 1]);
+    assert_eq!(classes([0x00, 0x10, 0x00], 0, 2, EMPTY), [2, 2, 1]);
+}
+
+#[test]
+fn one_set_of_one_way() {
+    assert_eq!(classes([0x00, 0x10, 0x00], 0, 1, UNKNOWN), [3, 2, 2]);
+}
+
+#[test]
+fn sets_and_ways_are_not_the_same() {
+    assert_eq!(classes([0x00, 0x20, 0x00], 0, 2, UNKNOWN), [3, 3, 1]);
+    assert_eq!(classes([0x00, 0x20, 0x00], 1, 1, UNKNOWN), [3, 2, 2]);
+}

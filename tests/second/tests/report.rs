@@ -1,0 +1,65 @@
+//! Document 01's chart and its report, whole, and its soundings of what is refused.
+
+use charts::{Chart, Record};
+use second::report::{report, INPUT};
+
+#[test]
+fn the_sample_has_the_report_of_document_01() {
+    let sample = [
+        0x01, 0x40, 0x24, 0x00, 0x00, 0x30, 0x00, 0x00, //
+        0x00, 0x00, 0x00, 0x00, 0x10, 0x01, 0x00, 0x00, //
+        0x40, 0x00, 0x00, 0x00, 0x20, 0x01, 0x00, 0x20, //
+        0x40, 0x00, 0x00, 0x00, 0x00, 0x00, 0x00, 0x00,
+    ];
+    assert_eq!(report(&sample), "nodes 3 blocks 1 passes 2\n0 none\n1 unsure\n2 hit\n");
+}
+
+#[test]
+fn the_other_words_are_miss_and_unreached() {
+    let chart = Chart::of(vec![Record::read(0), Record::step()]);
+    assert_eq!(
+        report(&chart.bytes()),
+        "nodes 2 blocks 1 passes 1\n0 miss\n1 unreached\n"
+    );
+}
+
+#[test]
+fn sixty_four_blocks_pass_and_65_are_refused() {
+    let addresses: Vec<u64> = (0..65).map(|block| block * 16).collect();
+    assert!(report(&Chart::straight(&addresses[..64]).bytes()).starts_with("nodes 64 blocks 64 passes 2\n"));
+    assert_eq!(report(&Chart::straight(&addresses).bytes()), "refused 10 at 64\n");
+}
+
+#[test]
+fn eight_ways_pass_and_0_and_9_do_not() {
+    let ways = |ways| report(&Chart::sample().shaped(0, ways, 1).bytes());
+    assert_eq!(ways(8), "nodes 3 blocks 1 passes 2\n0 none\n1 unsure\n2 hit\n");
+    assert_eq!(ways(0), "refused 3 at 0\n");
+    assert_eq!(ways(9), "refused 3 at 0\n");
+}
+
+#[test]
+fn seven_bytes_give_1() {
+    assert_eq!(report(&Chart::sample().bytes()[..7]), "refused 1 at 0\n");
+}
+
+#[test]
+fn an_arrow_to_n_gives_9_and_to_n_less_1_passes() {
+    let leading_to = |target| {
+        let mut chart = Chart::sample();
+        chart.records[2] = chart.records[2].to(target);
+        report(&chart.bytes())
+    };
+    assert_eq!(leading_to(3), "refused 9 at 2\n");
+    assert_eq!(leading_to(2), "nodes 3 blocks 1 passes 2\n0 none\n1 unsure\n2 hit\n");
+}
+
+#[test]
+fn a_longer_input_gets_the_answer_for_its_first_2057_bytes() {
+    assert_eq!(INPUT, 2_057);
+    let longest = Chart::steps(256).bytes();
+    assert!(report(&longest).starts_with("nodes 256 blocks 0 passes 1\n0 none\n1 unreached\n"));
+    let mut longer = longest;
+    longer.resize(5_000, 255);
+    assert_eq!(report(&longer), "refused 8 at 0\n");
+}

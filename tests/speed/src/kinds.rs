@@ -1,0 +1,53 @@
+//! Three kinds of charts, of any size: each node reads a block, the blocks taking turns, in a cache of four sets of eight ways.
+
+use charts::{Chart, Record};
+
+#[derive(Clone, Copy, Debug)]
+pub enum Kind {
+    /// A straight line with short cuts: all arrows lead on, and two passes do.
+    Short,
+    /// Loops of 4 nodes in loops of 16 in loops of 64 in one of all.
+    Looping,
+    /// A line that runs against the numbers, and back to its start: a pass carries a change one node far.
+    Backward,
+}
+
+impl Kind {
+    pub const ALL: [Kind; 3] = [Kind::Short, Kind::Looping, Kind::Backward];
+
+    pub fn name(self) -> &'static str {
+        match self {
+            Kind::Short => "short",
+            Kind::Looping => "looping",
+            Kind::Backward => "backward",
+        }
+    }
+
+    pub fn chart(self, nodes: usize, blocks: usize) -> Vec<u8> {
+        let records = (0..nodes).map(|node| {
+            let read = Record::read((node % blocks * 16) as u64);
+            self.targets(node, nodes)
+                .into_iter()
+                .fold(read, |read, target| read.to(target as u64))
+        });
+        let mut chart = Chart::of(records.collect()).shaped(2, 8, 1);
+        if let Kind::Backward = self {
+            chart.header.entry = nodes as u64 - 1;
+        }
+        chart.bytes()
+    }
+
+    fn targets(self, node: usize, nodes: usize) -> Vec<usize> {
+        match self {
+            Kind::Short => (node + 1..nodes).take(2).collect(),
+            Kind::Looping => {
+                let back = [nodes, 64, 16, 4]
+                    .into_iter()
+                    .find(|&size| (node + 1).is_multiple_of(size));
+                let on = Some(node + 1).filter(|&next| next < nodes);
+                on.into_iter().chain(back.map(|size| node + 1 - size)).collect()
+            }
+            Kind::Backward => vec![node.checked_sub(1).unwrap_or(nodes - 1)],
+        }
+    }
+}

@@ -1,0 +1,5 @@
+//! The proved analysis and the second program's in one process: the same charts, the same buffers, the same optimisation.
+
+pub mod boundary;
+pub mod kinds;
+pub mod timing;

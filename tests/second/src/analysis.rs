@@ -48,7 +48,7 @@ pub fn analyse(bytes: &[u8], allowance: usize, lent: Buffers) -> Analysed {
         return Analysed::Unsettled { allowance, blocks };
     };
     for (node, class) in classes.iter_mut().enumerate() {
-        *class = Class::of(&chart, &table, node) as u8;
+        *class = Class::of(&chart, table.lent(), node) as u8;
     }
     Analysed::Settled { passes, blocks }
 }

@@ -1,39 +1,15 @@
 //! Whether a lent table passes.
 
 use crate::chart::Chart;
+use crate::lent::Lent;
 use crate::refusal::Refusal;
 use crate::state::State;
-
-/// A table that a caller lends to be read. What is longer than used is not looked at.
-#[derive(Clone, Copy)]
-pub struct Lent<'a> {
-    pub must: &'a [u8],
-    pub may: &'a [u8],
-    pub marks: &'a [u8],
-}
 
 /// Yes or no, or one of refusals 1 to 11.
 pub fn check(bytes: &[u8], lent: Lent) -> Result<bool, Refusal> {
     let chart = Chart::read(bytes)?;
-    let lent = used(&chart, lent).ok_or(Refusal::of(11))?;
+    let lent = lent.used(&chart).ok_or(Refusal::of(11))?;
     Ok(in_range(&chart, lent) && unmarked_rows_are_zero(&chart, lent) && covers(&chart, lent))
-}
-
-fn used<'a>(chart: &Chart, lent: Lent<'a>) -> Option<Lent<'a>> {
-    let ages = chart.nodes.len() * chart.blocks.len();
-    Some(Lent {
-        must: lent.must.get(..ages)?,
-        may: lent.may.get(..ages)?,
-        marks: lent.marks.get(..chart.nodes.len())?,
-    })
-}
-
-impl<'a> Lent<'a> {
-    fn rows(self, chart: &Chart, node: usize) -> (&'a [u8], &'a [u8]) {
-        let blocks = chart.blocks.len();
-        let row = node * blocks..(node + 1) * blocks;
-        (&self.must[row.clone()], &self.may[row])
-    }
 }
 
 fn in_range(chart: &Chart, lent: Lent) -> bool {
@@ -62,7 +38,7 @@ fn covers(chart: &Chart, lent: Lent) -> bool {
         .nodes
         .iter()
         .enumerate()
-        .filter(|&(number, _)| lent.marks[number] == 1)
+        .filter(|&(number, _)| lent.marked(number))
         .all(|(number, node)| {
             let (must, may) = lent.rows(chart, number);
             after.pass_through(chart, node, must, may);
@@ -76,7 +52,7 @@ fn covers(chart: &Chart, lent: Lent) -> bool {
 /// Whether a node is marked, with must ages no less and may ages no more than the state's.
 fn holds(chart: &Chart, lent: Lent, node: usize, state: &State) -> bool {
     let (must, may) = lent.rows(chart, node);
-    lent.marks[node] == 1
+    lent.marked(node)
         && must.iter().zip(&state.must).all(|(age, least)| age >= least)
         && may.iter().zip(&state.may).all(|(age, most)| age <= most)
 }

@@ -1,5 +1,5 @@
 use crate::chart::Chart;
-use crate::table::Table;
+use crate::lent::Lent;
 
 /// What is known of a node's reference. The numbers are document 01's.
 #[derive(Clone, Copy, Debug, PartialEq, Eq)]
@@ -13,17 +13,17 @@ pub enum Class {
 
 impl Class {
     /// The class of a node under a table.
-    pub fn of(chart: &Chart, table: &Table, node: usize) -> Class {
-        if !table.marked(node) {
+    pub fn of(chart: &Chart, lent: Lent, node: usize) -> Class {
+        if !lent.marked(node) {
             return Class::Unreached;
         }
         let Some(m) = chart.nodes[node].block else {
             return Class::None;
         };
-        let column = table.row(node).start + m;
-        if table.must[column] < chart.ways() {
+        let (must, may) = lent.rows(chart, node);
+        if must[m] < chart.ways() {
             Class::Hit
-        } else if table.may[column] == chart.ways() {
+        } else if may[m] == chart.ways() {
             Class::Miss
         } else {
             Class::Unsure

@@ -1,9 +1,12 @@
 use crate::analysis::{analyse, Analysed, Buffers};
-use crate::checker::{check, Lent};
+use crate::cache::Costs;
+use crate::checker::check;
 use crate::geometry::Geometry;
+use crate::lent::Lent;
 use crate::refusal::Refusal;
+use crate::totals::{totals, Bounds, Totals};
 
-/// Buffers of one's own, to lend to an analysis or to the checker.
+/// Buffers of one's own, to lend to an analysis, to the checker or to the totals.
 #[derive(Clone, Debug, PartialEq, Eq)]
 pub struct Lending {
     pub blocks: Vec<u32>,
@@ -41,12 +44,20 @@ impl Lending {
         analyse(chart, allowance, buffers)
     }
 
-    pub fn check(&self, chart: &[u8]) -> Result<bool, Refusal> {
-        let lent = Lent {
+    /// The table to be read.
+    pub fn lent(&self) -> Lent<'_> {
+        Lent {
             must: &self.must,
             may: &self.may,
             marks: &self.marks,
-        };
-        check(chart, lent)
+        }
+    }
+
+    pub fn check(&self, chart: &[u8]) -> Result<bool, Refusal> {
+        check(chart, self.lent())
+    }
+
+    pub fn totals(&self, chart: &[u8], costs: Costs, bounds: Bounds) -> Result<Totals, Refusal> {
+        totals(chart, self.lent(), costs, bounds)
     }
 }

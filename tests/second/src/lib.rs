@@ -3,6 +3,7 @@
 
 pub mod ages;
 pub mod analysis;
+pub mod cache;
 pub mod chart;
 pub mod checker;
 pub mod class;
@@ -10,9 +11,11 @@ pub mod fields;
 pub mod geometry;
 pub mod header;
 pub mod lending;
+pub mod lent;
 pub mod passes;
 pub mod record;
 pub mod refusal;
 pub mod report;
 pub mod state;
 pub mod table;
+pub mod totals;

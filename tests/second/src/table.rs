@@ -1,4 +1,5 @@
 use crate::ages;
+use crate::lent::Lent;
 use crate::state::State;
 use std::ops::Range;
 
@@ -18,6 +19,15 @@ impl Table<'_> {
 
     pub fn marked(&self, node: usize) -> bool {
         self.marks[node] == 1
+    }
+
+    /// The table to be read.
+    pub fn lent(&self) -> Lent<'_> {
+        Lent {
+            must: self.must,
+            may: self.may,
+            marks: self.marks,
+        }
     }
 
     pub fn clear(&mut self) {

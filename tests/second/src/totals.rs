@@ -1,0 +1,67 @@
+//! The two totals, and refusals 13 to 17.
+
+use crate::cache::Costs;
+use crate::chart::Chart;
+use crate::checker::check;
+use crate::class::Class;
+use crate::lent::Lent;
+use crate::refusal::Refusal;
+
+/// A floor and a ceiling for each node: how often a walk visits it, at least and at most.
+#[derive(Clone, Copy)]
+pub struct Bounds<'a> {
+    pub floors: &'a [u16],
+    pub ceilings: &'a [u16],
+}
+
+/// What a walk within the bounds costs, at least and at most.
+#[derive(Clone, Copy, Debug, PartialEq, Eq)]
+pub struct Totals {
+    pub low: u64,
+    pub high: u64,
+}
+
+/// The totals under a table that passes, or one of refusals 1 to 11 and 13 to 17.
+pub fn totals(bytes: &[u8], lent: Lent, costs: Costs, bounds: Bounds) -> Result<Totals, Refusal> {
+    let chart = Chart::read(bytes)?;
+    if !check(bytes, lent)? {
+        return Err(Refusal::of(13));
+    }
+    refuse(&chart, lent, costs, bounds)?;
+    Ok(sums(&chart, lent, costs, bounds))
+}
+
+/// Refusals 14 to 17.
+fn refuse(chart: &Chart, lent: Lent, costs: Costs, bounds: Bounds) -> Result<(), Refusal> {
+    let Bounds { floors, ceilings } = bounds;
+    let nodes = chart.nodes.len();
+    if floors.len() != nodes || ceilings.len() != nodes {
+        return Err(Refusal::of(14));
+    }
+    if costs.miss < costs.hit {
+        return Err(Refusal::of(15));
+    }
+    if let Some(node) = (0..nodes).find(|&node| floors[node] > ceilings[node]) {
+        return Err(Refusal::at(16, node));
+    }
+    if let Some(node) = (0..nodes).find(|&node| floors[node] > 0 && !lent.marked(node)) {
+        return Err(Refusal::at(17, node));
+    }
+    Ok(())
+}
+
+/// What the marked references add. The largest sum is 256 times the square of 65,535.
+fn sums(chart: &Chart, lent: Lent, costs: Costs, bounds: Bounds) -> Totals {
+    let mut totals = Totals { low: 0, high: 0 };
+    for node in 0..chart.nodes.len() {
+        let (least, most) = match Class::of(chart, lent, node) {
+            Class::Unreached | Class::None => continue,
+            Class::Hit => (costs.hit, costs.hit),
+            Class::Miss => (costs.miss, costs.miss),
+            Class::Unsure => (costs.hit, costs.miss),
+        };
+        totals.low += u64::from(bounds.floors[node]) * u64::from(least);
+        totals.high += u64::from(bounds.ceilings[node]) * u64::from(most);
+    }
+    totals
+}

@@ -1,0 +1,105 @@
+//! The order of the totals' refusals: of several faults at once the first is told.
+
+mod question;
+
+use charts::random::Random;
+use charts::random_charts::{damaged, whole};
+use charts::Chart;
+use question::{after, sample, Question};
+use second::chart;
+use second::refusal::Refusal;
+use second::totals::Totals;
+
+/// A refusal, and a change of the question that brings it about.
+type Fault = (Refusal, fn(&mut Question));
+
+/// A fault for each refusal after the chart's own.
+const FAULTS: [Fault; 6] = [
+    (Refusal { number: 11, place: 0 }, |question| {
+        question.table.may.pop();
+    }),
+    (Refusal { number: 13, place: 0 }, |question| question.table.must[0] = 1),
+    (Refusal { number: 14, place: 0 }, |question| question.floors.push(0)),
+    (Refusal { number: 15, place: 0 }, |question| question.costs.miss = 0),
+    (Refusal { number: 16, place: 5 }, |question| question.floors[5] = 6),
+    (Refusal { number: 17, place: 4 }, |question| question.floors[4] = 1),
+];
+
+/// A chart for each refusal of its own.
+fn refused_charts() -> Vec<(Refusal, Vec<u8>)> {
+    let header = |change: fn(&mut charts::Header)| {
+        let mut chart = sample();
+        change(&mut chart.header);
+        chart.bytes()
+    };
+    let mut unruly = sample();
+    unruly.records[4].spare = 1;
+    let many: Vec<u64> = (0..66).map(|block| block * 16).collect();
+    vec![
+        (Refusal::of(1), sample().bytes()[..7].to_vec()),
+        (Refusal::of(2), header(|header| header.edition = 2)),
+        (Refusal::of(3), header(|header| header.ways = 9)),
+        (Refusal::of(4), header(|header| header.start = 2)),
+        (Refusal::of(5), header(|header| header.nodes = 0)),
+        (Refusal::of(6), header(|header| header.entry = 6)),
+        (Refusal::of(7), header(|header| header.tail = 1)),
+        (Refusal::of(8), header(|header| header.nodes = 7)),
+        (Refusal::at(9, 4), unruly.bytes()),
+        (Refusal::at(10, 64), Chart::reads(&many).bytes()),
+    ]
+}
+
+#[test]
+fn without_a_fault_there_are_totals() {
+    assert_eq!(after(|_| ()), Ok(Totals { low: 2, high: 101 }));
+}
+
+#[test]
+fn the_first_fault_of_any_is_refused() {
+    for faults in 1..1 << FAULTS.len() {
+        let mut question = Question::accepted();
+        let among = |fault: &usize| faults >> fault & 1 == 1;
+        for fault in (0..FAULTS.len()).filter(among) {
+            FAULTS[fault].1(&mut question);
+        }
+        let first = (0..FAULTS.len()).find(among).expect("there is one");
+        assert_eq!(question.answer(), Err(FAULTS[first].0), "faults {faults:06b}");
+    }
+}
+
+#[test]
+fn refusals_of_the_chart_go_before_all_others() {
+    let mut faulty = Question::accepted();
+    for (_, spoil) in FAULTS {
+        spoil(&mut faulty);
+    }
+    for (refusal, chart) in refused_charts() {
+        for question in [&faulty, &Question::accepted()] {
+            let question = Question {
+                chart: chart.clone(),
+                ..question.clone()
+            };
+            assert_eq!(question.answer(), Err(refusal));
+        }
+    }
+}
+
+#[test]
+fn damaged_charts_are_refused_as_the_reader_refuses_them() {
+    let mut refused = 0;
+    for seed in 0..2_000 {
+        let mut random = Random::new(seed);
+        let chart = whole(&mut random);
+        let chart = damaged(&mut random, chart);
+        let Err(refusal) = chart::Chart::read(&chart) else {
+            continue;
+        };
+        assert_eq!(
+            after(|question| question.chart = chart.clone()),
+            Err(refusal),
+            "seed {seed}"
+        );
+        refused += 1;
+    }
+    assert!(refused > 500, "only {refused} charts were refused");
+}

@@ -14,26 +14,26 @@ use Rattle.lists.proofs.Lists.{getD-padded}
 use Rattle.lists.proofs.Loops.{patch-written}
 use Rattle.chart.specs.Geometry.{mostBlocks}
 use Rattle.chart.specs.Chart.{Chart, accepted, readChart, touches, blockCount}
+use Rattle.chart.specs.declared.refusals.Refusal.the-variants.{Unsettled}
 use Rattle.cache.specs.Ages.{Ages, startAges}
 use Rattle.flow.specs.Flow.{Cell, blank, cellAt}
 use Rattle.flow.specs.Flow.{Among}
 use Rattle.flow.specs.Pass.{settled, spent, before, afterPasses, settle}
-use Rattle.analysis.specs.declared.Analysed.the-variants as Answer
-use Rattle.chart.specs.declared.refusals.Refusal.the-variants.{Unsettled}
 use Rattle.tables.specs.AgesFlow.{agesFlow, columnOf, isEmpty}
 use Rattle.tables.specs.Lent.{Lent, agesUsed, marksUsed, agesAt, tableOf, over}
 use Rattle.tables.proofs.Laid.{Shaped, must-stored, may-stored, marks-stored, tableOf-at, zeros-over, table-over, over-over, must-over-long, may-over-long, marks-over-long}
 use Rattle.tables.proofs.Laid.{long-enough}
 use Rattle.tables.proofs.Stepping.{column-inside}
-use Rattle.analysis.proofs.Room.{room-parts}
 use Rattle.tables.proofs.Shaping.{blanks-shaped, before-shaped, afterPasses-shaped}
 use Rattle.passes.specs.declared.settling.Settling.{Settling}
 use Rattle.passes.specs.declared.settling.Settling.the-variants.{Settled, Spent}
 use Rattle.passes.specs.Plan.{workBy, Planned, shapeOf}
 use Rattle.passes.specs.Inner.{SettledIn}
+use Rattle.analysis.specs.declared.Analysed.the-variants as Answer
 use Rattle.analysis.specs.Analysis.{Buffers, Left, tableIn, buffersShort, finish}
 use Rattle.analysis.specs.Class.{none, classBy, classesOf, nodeClass, tableClasses}
 use Rattle.analysis.specs.Inner.{cleared, begun, started, workClass, classIn, Closed, closed}
+use Rattle.analysis.proofs.Room.{room-parts}
 
 -- ---- zeros
 
@@ -66,7 +66,7 @@ module _ (chart : Chart) (lent : Lent) (must-room : agesUsed chart ≤ length (l
 -- ---- the classes
 
 module _ (bytes : List ℕ) (chart : Chart) (read : readChart bytes ≡ accepted chart) (keys works : List ℕ) (planned : Planned chart keys works) (lent : Lent) where
-  touches-class : (n : ℕ) (ts : List ℕ) → ((block : ℕ) → Among block ts → columnOf chart block < blockCount chart) → workClass (shapeOf chart) lent n (workBy chart ts) ≡ getD (classesOf chart ts (agesAt chart lent n)) 0 none
+  pub touches-class : (n : ℕ) (ts : List ℕ) → ((block : ℕ) → Among block ts → columnOf chart block < blockCount chart) → workClass (shapeOf chart) lent n (workBy chart ts) ≡ getD (classesOf chart ts (agesAt chart lent n)) 0 none
   touches-class n [] in-columns = refl
   touches-class n (block ∷ rest) in-columns =
       let inside : columnOf chart block < blockCount chart = in-columns block (inl refl) in

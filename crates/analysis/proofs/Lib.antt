@@ -1,2 +1,3 @@
 pub mod Room
 pub mod Finishing
+pub mod Calling

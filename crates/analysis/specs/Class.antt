@@ -1,5 +1,7 @@
 -- The classes. Document 01, "Ages and equations": "Class of a node, first that applies".
 use Prim.Native.Nat.{ℕ}
+use mathlib.Core.Bool.{true, false}
+use mathlib.Core.Path.{_≡_}
 use mathlib.Core.List.{List, [], _∷_}
 use lib.ListN.{getD}
 use lib.Dec.{ltb, eqb}
@@ -8,6 +10,7 @@ use Rattle.lists.specs.Lists.{listOf}
 use Rattle.chart.specs.Chart.{Chart, touches}
 use Rattle.cache.specs.Ages.{Ages, ageOf}
 use Rattle.flow.specs.Flow.{Cell, blank, holds, cellAt}
+use Rattle.flow.specs.Walk.{Machine}
 use Rattle.tables.specs.AgesFlow.{columns, columnOf, touched}
 
 abbrev pub unreached : ℕ
@@ -52,3 +55,13 @@ nodeClass chart n (holds a) = getD (classesOf chart (touches chart n) a) 0 none
 -- The class of each node.
 abbrev pub tableClasses : Chart → List (Cell Ages) → List ℕ
 tableClasses chart table = listOf (chart .header .nodes) (λ n. nodeClass chart n (cellAt table n))
+
+-- A touch called a hit is found by a machine and one called a miss is not: by the ages and the machine's contents just before it.
+pub record CalledRight (chart : Chart) (M : Machine ℕ) (block : ℕ) (a : Ages) (contents : M .Contents) : Type 0 where
+  pub hit-hits : classOf chart block a ≡ hit → M .finds block contents ≡ true
+  pub miss-misses : classOf chart block a ≡ miss → M .finds block contents ≡ false
+
+-- None of these classes is unsure.
+abbrev pub NoneUnsure : List ℕ → Type 0
+NoneUnsure [] = Unit {0}
+NoneUnsure (class ∷ classes) = (class ≡ unsure → ⊥) × NoneUnsure classes

@@ -1,11 +1,9 @@
 // The lent buffers: whether there is room, the block list, a table cleared and begun.
 ghost use mathlib.Core.Path.{_≡_};
 ghost use Prim.Native.Nat.{_+_, _*_, _≤_, _<_};
-ghost use mathlib.Core.Bool.{cond};
 ghost use lib.ListN.{length, getD};
 ghost use Rattle.lists.specs.Loops.{patch};
 ghost use Rattle.chart.specs.Geometry.{mostNodes, mostBlocks};
-ghost use Rattle.tables.specs.AgesFlow.{isEmpty};
 ghost use Rattle.tables.specs.Inner.{Roomy};
 ghost use Rattle.tables.specs.Lent.{Lent};
 ghost use Rattle.analysis.specs.Analysis.{Buffers};
@@ -53,16 +51,6 @@ pub(crate) fn clear(nodes: usize, count: usize, must: &mut [u8], may: &mut [u8],
     tables::fill(marks, 0, nodes, 0);
 }
 
-// The may age that every block has at the start.
-fn may_start(start: Start, ways: u8) -> u8
-    ensures { λ r. ⌜ r ≡ cond (isEmpty start) ways 0 ⌝ }
-{
-    match start {
-        Start::Unknown => 0,
-        Start::Empty => ways,
-    }
-}
-
 // The start in the entry's row, and its mark.
 fn begin(
     count: usize,
@@ -78,7 +66,7 @@ fn begin(
 {
     let base = entry * count;
     tables::fill(must, base, count, ways);
-    tables::fill(may, base, count, may_start(start, ways));
+    tables::fill(may, base, count, tables::start_age(start, ways));
     marks[entry] = 1;
 }
 

@@ -11,7 +11,7 @@ use passes::Shape;
 use rows::Work;
 
 // The class of a reference by its block's must and may age: hit, miss or unsure.
-fn class_of(ways: u8, must: u8, may: u8) -> u8
+pub fn class_of(ways: u8, must: u8, may: u8) -> u8
     ensures { λ r. ⌜ r ≡ classBy ways must may ⌝ }
 {
     if must < ways {

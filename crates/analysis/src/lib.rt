@@ -4,6 +4,7 @@ mod classes;
 mod settled;
 
 use chart::Refusal;
+pub use classes::class_of;
 pub use settled::analyse;
 
 // Settled after so many passes over a chart of so many blocks, or a refusal.

@@ -1,50 +1,13 @@
 -- A touch: the age of each block after it, that it keeps ages within their limits, and that it keeps the order of states.
 use mathlib.Core.Bool.{Bool, true, false, cond}
 use mathlib.Core.Path.{_≡_, refl}
-use Prim.Native.Nat.{ℕ, suc, _≤_, _<_, min}
+use Prim.Native.Nat.{ℕ, _≤_, _<_}
 use native.Mathlib.Omega.{arith}
-use borrow.Author.Tests.{eqb-true, ltb-true, ltb-false, leb-true, leb-false}
-use lib.Dec.{eqb, ltb, leb}
+use borrow.Author.Tests.{eqb-true}
+use lib.Dec.{eqb}
 use Rattle.lists.proofs.Listed.{length-listOf, getD-listOf}
 use Rattle.cache.specs.Ages.{Columns, Ages, ageOf, mustGrown, mayGrown, mustAfter, mayAfter, touchAges, Within, Tighter}
-
--- ---- one age
-
-grown-within : (limit h age : ℕ) → age ≤ limit → h ≤ limit → mustGrown h age ≤ limit
-unfolding mustGrown
-grown-within limit h age p q = go (ltb age h) refl
-  where
-    go : (t : Bool) → ltb age h ≡ t → cond t (suc age) age ≤ limit
-    go true e = omega (arith, ltb-true age h e)
-    go false e = p
-
-may-grown-within : (limit h age : ℕ) → age ≤ limit → mayGrown limit h age ≤ limit
-unfolding mayGrown
-may-grown-within limit h age p = go (leb age h)
-  where
-    go : (t : Bool) → cond t (min limit (suc age)) age ≤ limit
-    go true = omega arith
-    go false = p
-
-grown-monotone : (h k a b : ℕ) → h ≤ k → a ≤ b → mustGrown h a ≤ mustGrown k b
-unfolding mustGrown
-grown-monotone h k a b p q = go (ltb a h) refl (ltb b k) refl
-  where
-    go : (s : Bool) → ltb a h ≡ s → (t : Bool) → ltb b k ≡ t → cond s (suc a) a ≤ cond t (suc b) b
-    go true d true e = omega arith
-    go true d false e = omega (arith, ltb-true a h d, ltb-false b k e)
-    go false d true e = omega arith
-    go false d false e = q
-
-may-grown-monotone : (limit h k a b : ℕ) → a ≤ limit → h ≤ k → a ≤ b → mayGrown limit h a ≤ mayGrown limit k b
-unfolding mayGrown
-may-grown-monotone limit h k a b l p q = go (leb a h) refl (leb b k) refl
-  where
-    go : (s : Bool) → leb a h ≡ s → (t : Bool) → leb b k ≡ t → cond s (min limit (suc a)) a ≤ cond t (min limit (suc b)) b
-    go true d true e = omega arith
-    go true d false e = omega (arith, leb-true a h d, leb-false b k e)
-    go false d true e = omega arith
-    go false d false e = q
+use Rattle.cache.proofs.Growing.{grown-within, may-grown-within, grown-monotone, may-grown-monotone}
 
 -- ---- the touched block, another of its set, and the rest
 

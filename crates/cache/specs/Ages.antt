@@ -1,6 +1,6 @@
 -- Must and may ages of one touch, their meeting and their start. Document 01, "Ages and equations".
--- A row has an age for each of `count` columns; a column is a block, known by its set key and by its limit, the age of a block that
--- is absent (document 01's A).
+-- A row has an age for each of `count` columns. A column stands for a block, by its place in the chart's list, and is known here by its
+-- set key and by its limit, the age of a block that is absent (document 01's A).
 use Prim.Native.Nat.{ℕ, suc, _≤_, _<_, min, max}
 use mathlib.Core.Path.{_≡_}
 use mathlib.Core.Bool.{Bool, true, false, cond, _&&_}
@@ -20,7 +20,7 @@ pub record Ages : Type 0 where
   pub may : List ℕ
 
 abbrev pub ageOf : List ℕ → ℕ → ℕ
-ageOf row block = getD row block 0
+ageOf row column = getD row column 0
 
 -- ---- a touch of m, on the ages of all blocks
 
@@ -34,13 +34,13 @@ mayGrown limit h age = cond (leb age h) (min limit (suc age)) age
 
 -- "Reference to m of must age h: m becomes 0; another block of the same set below h grows by one; all else stays."
 unfoldable pub mustAfter : (ℕ → ℕ) → ℕ → (ℕ → ℕ) → ℕ → ℕ
-mustAfter key m age block =
-    cond (eqb block m) 0 (cond (eqb (key block) (key m)) (mustGrown (age m) (age block)) (age block))
+mustAfter key m age column =
+    cond (eqb column m) 0 (cond (eqb (key column) (key m)) (mustGrown (age m) (age column)) (age column))
 
 -- "Reference to m of may age h: m becomes 0; another block of the same set at or below h grows by one, never past A; all else stays."
 unfoldable pub mayAfter : (ℕ → ℕ) → (ℕ → ℕ) → ℕ → (ℕ → ℕ) → ℕ → ℕ
-mayAfter key limit m age block =
-    cond (eqb block m) 0 (cond (eqb (key block) (key m)) (mayGrown (limit block) (age m) (age block)) (age block))
+mayAfter key limit m age column =
+    cond (eqb column m) 0 (cond (eqb (key column) (key m)) (mayGrown (limit column) (age m) (age column)) (age column))
 
 -- ---- the same on rows
 
@@ -65,8 +65,8 @@ module _ (columns : Columns) where
   unfoldable pub meetAges : Ages → Ages → Ages
   meetAges a b =
       record {
-        must = listOf (columns .count) (λ block. max (ageOf (a .must) block) (ageOf (b .must) block));
-        may = listOf (columns .count) (λ block. min (ageOf (a .may) block) (ageOf (b .may) block));
+        must = listOf (columns .count) (λ column. max (ageOf (a .must) column) (ageOf (b .must) column));
+        may = listOf (columns .count) (λ column. min (ageOf (a .may) column) (ageOf (b .may) column));
       }
 
   -- "Start: must is A everywhere; may is 0 everywhere if unknown, A everywhere if empty."
@@ -74,7 +74,7 @@ module _ (columns : Columns) where
   startAges empty =
       record {
         must = listOf (columns .count) (columns .limit);
-        may = listOf (columns .count) (λ block. cond empty (columns .limit block) 0);
+        may = listOf (columns .count) (λ column. cond empty (columns .limit column) 0);
       }
 
   -- ---- which rows are rows of a table, and which of two is tighter
@@ -83,10 +83,10 @@ module _ (columns : Columns) where
   pub record Within (a : Ages) : Type 0 where
     pub must-long : length (a .must) ≡ columns .count
     pub may-long : length (a .may) ≡ columns .count
-    pub must-most : (block : ℕ) → block < columns .count → ageOf (a .must) block ≤ columns .limit block
-    pub may-most : (block : ℕ) → block < columns .count → ageOf (a .may) block ≤ columns .limit block
+    pub must-most : (column : ℕ) → column < columns .count → ageOf (a .must) column ≤ columns .limit column
+    pub may-most : (column : ℕ) → column < columns .count → ageOf (a .may) column ≤ columns .limit column
 
   -- "must ages no less and may ages no more": those of b than those of a
   pub record Tighter (a b : Ages) : Type 0 where
-    pub must-less : (block : ℕ) → block < columns .count → ageOf (a .must) block ≤ ageOf (b .must) block
-    pub may-more : (block : ℕ) → block < columns .count → ageOf (b .may) block ≤ ageOf (a .may) block
+    pub must-less : (column : ℕ) → column < columns .count → ageOf (a .must) column ≤ ageOf (b .must) column
+    pub may-more : (column : ℕ) → column < columns .count → ageOf (b .may) column ≤ ageOf (a .may) column

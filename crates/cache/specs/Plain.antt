@@ -14,6 +14,7 @@ unfoldable pub has : ℕ → List ℕ → Bool
 has block [] = false
 has block (x ∷ l) = cond (eqb x block) true (has block l)
 
+-- A list without the first place of a block, which is its only one: the blocks of a list are different.
 unfoldable pub without : ℕ → List ℕ → List ℕ
 without block [] = []
 without block (x ∷ l) = cond (eqb x block) l (x ∷ without block l)
@@ -47,6 +48,7 @@ age ways key cache block = ageIn (ways (key block)) (cache (key block)) block
 
 -- ---- what a walk may begin with
 
+-- A block stands nowhere in a list; the blocks of a list are different; they are all of one set.
 abbrev pub Absent : ℕ → List ℕ → Type 0
 Absent block [] = Unit {0}
 Absent block (x ∷ l) = (x ≡ block → ⊥) × Absent block l
@@ -59,13 +61,12 @@ abbrev pub AllOf : (ℕ → ℕ) → ℕ → List ℕ → Type 0
 AllOf key set [] = Unit {0}
 AllOf key set (x ∷ l) = (key x ≡ set) × AllOf key set l
 
--- "Each set is a list of at most A different blocks of that set, youngest first." "Start "unknown" means any lists of this form, also of blocks not
--- in the chart."
+-- "Each set is a list of at most A different blocks of that set, youngest first."
 pub record Formed (ways key : ℕ → ℕ) (cache : Cache) : Type 0 where
   pub short : (set : ℕ) → length (cache set) ≤ ways set
   pub different : (set : ℕ) → Different (cache set)
   pub own : (set : ℕ) → AllOf key set (cache set)
 
--- "Start "empty" means all lists are empty."
+-- All lists are empty.
 abbrev pub emptyCache : Cache
 emptyCache set = []

@@ -1,1 +1,1 @@
-// The plain cache and the ages of one touch: definitions, no code yet.
+// The plain cache, and must and may ages of one touch: definitions and their laws, no code.

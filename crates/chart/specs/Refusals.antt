@@ -42,6 +42,45 @@ placeOf Costs = 0
 placeOf (FloorAboveCeiling node) = node
 placeOf (FloorAtUnmarked node) = node
 
+-- The pass count and the block count that a refusal returns: "0, save that 12 also returns the allowance and B".
+abbrev pub passesOf : Refusal → ℕ
+passesOf TooShort = 0
+passesOf Edition = 0
+passesOf Shape = 0
+passesOf StartCode = 0
+passesOf NodeCount = 0
+passesOf EntryNode = 0
+passesOf SpareBits = 0
+passesOf Length = 0
+passesOf (BrokenRecord node) = 0
+passesOf (TooManyBlocks node) = 0
+passesOf ShortBuffer = 0
+passesOf (Unsettled allowance blocks) = allowance
+passesOf NotPassing = 0
+passesOf BoundsLength = 0
+passesOf Costs = 0
+passesOf (FloorAboveCeiling node) = 0
+passesOf (FloorAtUnmarked node) = 0
+
+abbrev pub blocksOf : Refusal → ℕ
+blocksOf TooShort = 0
+blocksOf Edition = 0
+blocksOf Shape = 0
+blocksOf StartCode = 0
+blocksOf NodeCount = 0
+blocksOf EntryNode = 0
+blocksOf SpareBits = 0
+blocksOf Length = 0
+blocksOf (BrokenRecord node) = 0
+blocksOf (TooManyBlocks node) = 0
+blocksOf ShortBuffer = 0
+blocksOf (Unsettled allowance blocks) = blocks
+blocksOf NotPassing = 0
+blocksOf BoundsLength = 0
+blocksOf Costs = 0
+blocksOf (FloorAboveCeiling node) = 0
+blocksOf (FloorAtUnmarked node) = 0
+
 -- What an answer says, in the paper's numbers. An answer that is no refusal has number 0, and a value that an answer does not have is 0.
 pub record Said : Type 0 where
   pub number : ℕ
@@ -65,20 +104,4 @@ refusalWith passes blocks refusal =
     record { number = numberOf refusal; place = placeOf refusal; passes = passes; blocks = blocks; yes = 0; low = 0; high = 0 }
 
 abbrev pub refusalSays : Refusal → Said
-refusalSays TooShort = refusalWith 0 0 TooShort
-refusalSays Edition = refusalWith 0 0 Edition
-refusalSays Shape = refusalWith 0 0 Shape
-refusalSays StartCode = refusalWith 0 0 StartCode
-refusalSays NodeCount = refusalWith 0 0 NodeCount
-refusalSays EntryNode = refusalWith 0 0 EntryNode
-refusalSays SpareBits = refusalWith 0 0 SpareBits
-refusalSays Length = refusalWith 0 0 Length
-refusalSays (BrokenRecord node) = refusalWith 0 0 (BrokenRecord node)
-refusalSays (TooManyBlocks node) = refusalWith 0 0 (TooManyBlocks node)
-refusalSays ShortBuffer = refusalWith 0 0 ShortBuffer
-refusalSays (Unsettled allowance blocks) = refusalWith allowance blocks (Unsettled allowance blocks)
-refusalSays NotPassing = refusalWith 0 0 NotPassing
-refusalSays BoundsLength = refusalWith 0 0 BoundsLength
-refusalSays Costs = refusalWith 0 0 Costs
-refusalSays (FloorAboveCeiling node) = refusalWith 0 0 (FloorAboveCeiling node)
-refusalSays (FloorAtUnmarked node) = refusalWith 0 0 (FloorAtUnmarked node)
+refusalSays refusal = refusalWith (passesOf refusal) (blocksOf refusal) refusal

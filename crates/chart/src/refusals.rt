@@ -1,6 +1,6 @@
 // What the tool answers when it says no.
 ghost use mathlib.Core.Path.{_≡_};
-ghost use Rattle.chart.specs.Refusals.{numberOf, placeOf, Said, refusalSays};
+ghost use Rattle.chart.specs.Refusals.{numberOf, placeOf, passesOf, blocksOf};
 
 // Document 01's refusals, in its order; those that name a node carry it.
 pub enum Refusal {
@@ -82,57 +82,29 @@ impl Refusal {
 
     // The passes allowed, where they were not enough, or 0.
     pub fn passes(self) -> usize
-        ensures { λ r. ⌜ r ≡ refusalSays self .passes ⌝ }
+        ensures { λ r. ⌜ r ≡ passesOf self ⌝ }
     {
-        match self {
-            Refusal::TooShort => 0,
-            Refusal::Edition => 0,
-            Refusal::Shape => 0,
-            Refusal::StartCode => 0,
-            Refusal::NodeCount => 0,
-            Refusal::EntryNode => 0,
-            Refusal::SpareBits => 0,
-            Refusal::Length => 0,
-            Refusal::BrokenRecord(_) => 0,
-            Refusal::TooManyBlocks(_) => 0,
-            Refusal::ShortBuffer => 0,
-            Refusal::Unsettled {
-                allowance: allowance,
-                blocks: _,
-            } => allowance,
-            Refusal::NotPassing => 0,
-            Refusal::BoundsLength => 0,
-            Refusal::Costs => 0,
-            Refusal::FloorAboveCeiling(_) => 0,
-            Refusal::FloorAtUnmarked(_) => 0,
-        }
+        let Refusal::Unsettled {
+            allowance: allowed,
+            blocks: _,
+        } = self
+        else {
+            return 0;
+        };
+        allowed
     }
 
     // The number of blocks, where the passes allowed were not enough, or 0.
     pub fn blocks(self) -> usize
-        ensures { λ r. ⌜ r ≡ refusalSays self .blocks ⌝ }
+        ensures { λ r. ⌜ r ≡ blocksOf self ⌝ }
     {
-        match self {
-            Refusal::TooShort => 0,
-            Refusal::Edition => 0,
-            Refusal::Shape => 0,
-            Refusal::StartCode => 0,
-            Refusal::NodeCount => 0,
-            Refusal::EntryNode => 0,
-            Refusal::SpareBits => 0,
-            Refusal::Length => 0,
-            Refusal::BrokenRecord(_) => 0,
-            Refusal::TooManyBlocks(_) => 0,
-            Refusal::ShortBuffer => 0,
-            Refusal::Unsettled {
-                allowance: _,
-                blocks: blocks,
-            } => blocks,
-            Refusal::NotPassing => 0,
-            Refusal::BoundsLength => 0,
-            Refusal::Costs => 0,
-            Refusal::FloorAboveCeiling(_) => 0,
-            Refusal::FloorAtUnmarked(_) => 0,
-        }
+        let Refusal::Unsettled {
+            allowance: _,
+            blocks: count,
+        } = self
+        else {
+            return 0;
+        };
+        count
     }
 }

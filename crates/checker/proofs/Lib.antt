@@ -1,3 +1,4 @@
 pub mod Deciding
 pub mod Testing
 pub mod Answering
+pub mod Used

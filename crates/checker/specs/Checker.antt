@@ -31,9 +31,9 @@ module _ (chart : Chart) (lent : Lent) where
   agesFit =
       every (chart .header .nodes)
       (λ n. every (blockCount chart)
-      (λ block.
-      leb (ageOf (agesAt chart lent n .must) block) (columns chart .limit block)
-      && leb (ageOf (agesAt chart lent n .may) block) (columns chart .limit block)))
+      (λ column.
+      leb (ageOf (agesAt chart lent n .must) column) (columns chart .limit column)
+      && leb (ageOf (agesAt chart lent n .may) column) (columns chart .limit column)))
 
   -- "the rows of unmarked nodes are all 0"
   abbrev pub unmarkedZero : Bool
@@ -41,16 +41,16 @@ module _ (chart : Chart) (lent : Lent) where
       every (chart .header .nodes)
       (λ n. marked lent n
       || every (blockCount chart)
-      (λ block. eqb (ageOf (agesAt chart lent n .must) block) 0 && eqb (ageOf (agesAt chart lent n .may) block) 0))
+      (λ column. eqb (ageOf (agesAt chart lent n .must) column) 0 && eqb (ageOf (agesAt chart lent n .may) column) 0))
 
   -- "must ages are no less and its may ages no more than": node t's than these
   abbrev pub allows : Ages → ℕ → Bool
   allows a t =
       marked lent t
       && every (blockCount chart)
-      (λ block.
-      leb (ageOf (a .must) block) (ageOf (agesAt chart lent t .must) block)
-      && leb (ageOf (agesAt chart lent t .may) block) (ageOf (a .may) block))
+      (λ column.
+      leb (ageOf (a .must) column) (ageOf (agesAt chart lent t .must) column)
+      && leb (ageOf (agesAt chart lent t .may) column) (ageOf (a .may) column))
 
   -- "the entry is marked and its must ages are no less and its may ages no more than the start's"
   abbrev pub entryAllows : Bool

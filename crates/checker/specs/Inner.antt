@@ -18,23 +18,23 @@ use Rattle.checker.specs.Checker.{marked, everyOf, allows}
 abbrev pub rowWithin : ℕ → List ℕ → List ℕ → ℕ → ℕ → Bool
 rowWithin blocks must may most n =
     every blocks
-    (λ block. leb (ageOf (rowAt blocks must n) block) most && leb (ageOf (rowAt blocks may n) block) most)
+    (λ column. leb (ageOf (rowAt blocks must n) column) most && leb (ageOf (rowAt blocks may n) column) most)
 
 abbrev pub rowZero : ℕ → List ℕ → List ℕ → ℕ → Bool
 rowZero blocks must may n =
     every blocks
-    (λ block. eqb (ageOf (rowAt blocks must n) block) 0 && eqb (ageOf (rowAt blocks may n) block) 0)
+    (λ column. eqb (ageOf (rowAt blocks must n) column) 0 && eqb (ageOf (rowAt blocks may n) column) 0)
 
 -- Whether row t's must ages are no less and its may ages no more than these.
-abbrev pub rowNear : ℕ → Ages → List ℕ → List ℕ → ℕ → Bool
-rowNear blocks a must may t =
+abbrev pub rowCovers : ℕ → Ages → List ℕ → List ℕ → ℕ → Bool
+rowCovers blocks a must may t =
     every blocks
-    (λ block.
-    leb (ageOf (a .must) block) (ageOf (rowAt blocks must t) block)
-    && leb (ageOf (rowAt blocks may t) block) (ageOf (a .may) block))
+    (λ column.
+    leb (ageOf (a .must) column) (ageOf (rowAt blocks must t) column)
+    && leb (ageOf (rowAt blocks may t) column) (ageOf (a .may) column))
 
 abbrev pub rowAllows : ℕ → Ages → Lent → ℕ → Bool
-rowAllows blocks a lent t = marked lent t && rowNear blocks a (lent .must) (lent .may) t
+rowAllows blocks a lent t = marked lent t && rowCovers blocks a (lent .must) (lent .may) t
 
 -- The start's ages, in every place of a row.
 abbrev pub startRow : Start → ℕ → Row

@@ -66,8 +66,8 @@ fn table_passes(
     plain & (fit & (zero & (begins & arrows)))
 }
 
-// What the checker answers for an accepted chart.
-fn check_accepted(
+// What the checker answers for an accepted chart. What reads the table is handed its used parts alone.
+pub fn check_accepted(
     chart: &[u8],
     header: Header,
     blocks: &[u32],
@@ -93,7 +93,16 @@ fn check_accepted(
     };
     let keys = passes::keys_of(geometry, blocks, count);
     let works = passes::works_of(chart, nodes, geometry, blocks, count);
-    let passing = table_passes(header, shape, chart, &keys, &works, must, may, marks);
+    let passing = table_passes(
+        header,
+        shape,
+        chart,
+        &keys,
+        &works,
+        &must[..used],
+        &may[..used],
+        &marks[..nodes],
+    );
     if passing {
         return Checked::Passes;
     }

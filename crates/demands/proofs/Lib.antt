@@ -3,4 +3,9 @@ pub mod Refusals
 pub mod Numbers
 pub mod Checking
 pub mod Analysing
+pub mod Totalling
+pub mod Truth
+pub mod Demand1
 pub mod Demand2
+pub mod Demand3
+pub mod Demands

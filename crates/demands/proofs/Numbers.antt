@@ -1,8 +1,8 @@
 -- Of demand 1: which numbers each function's refusals have, and their values.
-use Prim.Native.Nat.{ℕ, _≤_}
+use Prim.Native.Nat.{ℕ, _≤_, _<_}
 use mathlib.Core.Bool.{Bool, true, false, cond}
 use mathlib.Core.List.{List}
-use mathlib.Core.Path.{_≡_, refl}
+use mathlib.Core.Path.{_≡_, refl, ap, _∙_}
 use native.Mathlib.Omega.{arith}
 use borrow.Author.Tests.{leb-true}
 use lib.Dec.{leb}
@@ -13,14 +13,16 @@ use Rattle.chart.specs.declared.refusals.Refusal.the-variants.{ShortBuffer, Uns
 use Rattle.chart.specs.declared.headers.HeaderRead.{HeaderRead}
 use Rattle.chart.specs.declared.headers.HeaderRead.the-variants.{Accepted, Refused}
 use Rattle.chart.specs.Header.{headerIn, headerRules, headerRead, headerSays}
-use Rattle.chart.specs.Refusals.{numberOf, refusalWith, refusalSays}
-use Rattle.chart.proofs.Values.{refusal-says}
+use Rattle.chart.specs.Refusals.{Said, numberOf, refusalWith, refusalSays}
 use Rattle.chart.specs.Chart.{Chart, Read, accepted, refused, readChart, chartRules}
+use Rattle.chart.specs.declared.readings.Verdict.the-variants.{Refused as ReaderRefused}
 use Rattle.chart.specs.Reading.{readingOf, reading, verdictSays}
+use Rattle.chart.proofs.Values.{unless-unsettled}
 use Rattle.cache.specs.Ages.{Ages}
 use Rattle.flow.specs.Pass.{Outcome, settled, spent, settle}
 use Rattle.tables.specs.AgesFlow.{agesFlow}
 use Rattle.tables.specs.Lent.{Lent, tableShort}
+use Rattle.analysis.specs.declared.Analysed.the-variants.{Refused as AnalysisRefused}
 use Rattle.analysis.specs.Analysis.{Buffers, buffersShort, refuse, finish, analyseRead, analysed, analysedSays}
 use Rattle.checker.specs.declared.Checked.the-variants.{Passes, Fails}
 use Rattle.checker.specs.declared.Checked.the-variants.{Refused as CheckerRefused}
@@ -30,7 +32,7 @@ use Rattle.demands.proofs.Refusals.{reading-refusals}
 -- ---- one refusal
 
 pub refusal-values : (refusal : Refusal) → (numberOf refusal ≡ 12 → ⊥) → refusalSays refusal ≡ refusalWith 0 0 refusal
-refusal-values refusal = refusal-says refusal .unless-unsettled
+refusal-values = unless-unsettled
 
 pub unsettled-values : (allowance blocks : ℕ) → refusalSays (Unsettled allowance blocks) ≡ refusalWith allowance blocks (Unsettled allowance blocks)
 unsettled-values allowance blocks = refl
@@ -41,7 +43,7 @@ unsettled-values allowance blocks = refl
 said-most : (most : ℕ) (rules : List (Rule Refusal)) (refusal : Refusal) → everyAnswer (λ r. leb (numberOf r) most) rules ≡ true → FirstApplies rules refusal
     → refusalSays refusal .number ≤ most
 said-most most rules refusal e f =
-    omega (arith, refusal-says refusal .number, leb-true (numberOf refusal) most (answer-passes (λ r. leb (numberOf r) most) rules refusal e f))
+    leb-true (numberOf refusal) most (answer-passes (λ r. leb (numberOf r) most) rules refusal e f)
 
 read-most : (bytes : List ℕ) (refusal : Refusal) → readChart bytes ≡ refused refusal → refusalSays refusal .number ≤ 10
 read-most bytes refusal e = said-most 10 (chartRules bytes) refusal refl (reading-refusals .only bytes refusal e)
@@ -89,3 +91,26 @@ analysis-numbers bytes allowance lent = go (readChart bytes) refl
     go : (r : Read) → readChart bytes ≡ r → analysedSays (analyseRead allowance lent r .answer) .number ≤ 12
     go (accepted chart) e = answer chart (buffersShort chart lent) (settle (agesFlow chart) allowance)
     go (refused refusal) e = omega (arith, read-most bytes refusal e)
+
+-- ---- the values of a refusal that is given
+
+-- A refusal with a number below 12 says its number and its place alone.
+below-says : (refusal : Refusal) (said : Said) → said ≡ refusalSays refusal → said .number < 12 → said ≡ refusalWith 0 0 refusal
+below-says refusal said e h =
+    e ∙ unless-unsettled refusal (λ q. omega (arith, ap (λ (s : Said). s .number) e))
+
+pub header-refusal : (bytes : List ℕ) (refusal : Refusal) → headerRead bytes ≡ Refused refusal → headerSays (headerRead bytes) ≡ refusalWith 0 0 refusal
+header-refusal bytes refusal e =
+    below-says refusal (headerSays (headerRead bytes)) (ap headerSays e) (omega (arith, header-numbers bytes))
+
+pub reading-refusal : (bytes : List ℕ) (refusal : Refusal) → reading bytes .verdict ≡ ReaderRefused refusal → verdictSays (reading bytes .verdict) ≡ refusalWith 0 0 refusal
+reading-refusal bytes refusal e =
+    below-says refusal (verdictSays (reading bytes .verdict)) (ap verdictSays e) (omega (arith, reading-numbers bytes))
+
+pub checker-refusal : (bytes : List ℕ) (table : Lent) (refusal : Refusal) → checked bytes table ≡ CheckerRefused refusal → checkedSays (checked bytes table) ≡ refusalWith 0 0 refusal
+checker-refusal bytes table refusal e =
+    below-says refusal (checkedSays (checked bytes table)) (ap checkedSays e) (omega (arith, checker-numbers bytes table))
+
+pub analysis-refusal : (bytes : List ℕ) (allowance : ℕ) (lent : Buffers) (refusal : Refusal) → analysed bytes allowance lent .answer ≡ AnalysisRefused refusal → (numberOf refusal ≡ 12 → ⊥)
+    → analysedSays (analysed bytes allowance lent .answer) ≡ refusalWith 0 0 refusal
+analysis-refusal bytes allowance lent refusal e other = ap analysedSays e ∙ unless-unsettled refusal other

@@ -1,6 +1,6 @@
 -- Of demand 1: refusals 1 to 10 are given exactly when their row is the first that applies, and every function gives them.
+use mathlib.Core.Path.{_≡_, refl}
 use Prim.Native.Nat.{ℕ}
-use mathlib.Core.Path.{_≡_}
 use native.Mathlib.Omega.{arith}
 use Rattle.lists.proofs.Choice.{first-applies, applies-first}
 use Rattle.chart.specs.declared.headers.HeaderRead.the-variants.{Accepted as HeaderAccepted, Refused as HeaderRefused}
@@ -18,11 +18,12 @@ pub reading-refusals : ReadingRefusals
 unfolding readChart readingOf analysed checked totals headerRead
 reading-refusals =
     record {
+      order = λ bytes. refl;
       given = λ bytes refusal f. first-applies refused (chartRules bytes) (accepted (chartIn bytes)) refusal f;
       only = λ bytes refusal e. applies-first refused (chartRules bytes) (accepted (chartIn bytes)) refusal (λ a b q. cc) (λ q. let z : _≡_ {A = ℕ} 0 1 = cc in omega arith) e;
       header-given = λ bytes refusal f. first-applies HeaderRefused (headerRules bytes) (HeaderAccepted (headerIn bytes)) refusal f;
       header-only = λ bytes refusal e. applies-first HeaderRefused (headerRules bytes) (HeaderAccepted (headerIn bytes)) refusal (λ a b q. cc) (λ q. let z : _≡_ {A = ℕ} 0 1 = cc in omega arith) e;
-      to-header = read-refuses;
+      from-header = read-refuses;
       to-reader = λ bytes refusal e. rw e;
       to-analysis = λ bytes refusal allowance lent e. rw e;
       to-checker = λ bytes refusal table e. rw e;

@@ -1,68 +1,140 @@
 -- The definitions give what document 01 says: its starred soundings under one claim; the sample whole; a damaged chart's refusals; and
 -- what each of the spreadsheet's mistakes would read instead.
+use Prim.Native.Nat.{ℕ, zero, suc, _≤_, _<_}
+use mathlib.Core.List.{_∷_}
+use lib.ListN.{getD, length}
+use native.Mathlib.Omega.{arith}
 use mathlib.Core.Path.{_≡_, refl}
-use mathlib.Core.List.{List, map}
 use mathlib.Core.Logic.{inl, inr}
 use Rattle.chart.specs.Layout.{wordAt}
+use Rattle.chart.specs.Header.{headerIn}
 use Rattle.chart.specs.Geometry.{blockOf, setOf, shapeAllowed}
 use Rattle.chart.specs.Record.{recordKeeps, recordOf, arrowsOf, touchesOf}
 use Rattle.chart.specs.Blocks.{gathered, overfull, placeIn}
 use Rattle.chart.specs.Reading.{readingOf}
-use Rattle.chart.specs.Chart.{firstBroken, firstOverfull, accepted, readChart, arrows}
-use Rattle.cache.specs.Plain.{has, without, touchSet, hits, touch}
+use Rattle.chart.specs.Chart.{firstBroken, firstOverfull, readChart}
+use Rattle.cache.specs.Plain.{has, without, touchSet, hits, touch, Different, AllOf}
 use Rattle.cache.specs.Ages.{mustGrown, mayGrown, mustAfter, mayAfter, sameAges, touchAges, meetAges, startAges}
+use Rattle.flow.specs.Walk.{visitsOf}
 use Rattle.flow.specs.Pass.{met, changes, metAt, put, putAll, visitWith, visit, visits, pass, before, settleFrom, settle}
-use Rattle.flow.specs.Walk.{Walk}
-use Rattle.tables.specs.AgesFlow.{allPasses}
+use Rattle.flow.proofs.Reaching.{onward-more}
 use Rattle.analysis.specs.Class.{classBy}
 use Rattle.analysis.specs.Analysis.{finish, analysed}
-use Rattle.checker.specs.Checker.{passes}
-use Rattle.report.specs.Report.{longest, report}
+use Rattle.checker.specs.Checker.{passes, checked}
 use Rattle.totals.specs.Totals.{totalOf, totals}
-use Rattle.demands.specs.Charts.{loopChart, loopReport}
-use Rattle.demands.specs.Soundings.{Sounding, starred, loop, tenTurns}
-use Rattle.demands.specs.Refused.{refusals}
+use Rattle.report.specs.Report.{report}
+use Rattle.demands.specs.Machine.{keyOf, Begins}
+use Rattle.demands.specs.Soundings.{Hold, starred, loopPrices, tenTurns}
+use Rattle.demands.specs.Refused.{damaged, unanalysed}
+use Rattle.demands.specs.Tabled.{unchecked, looser, untotalled, summed}
+use Rattle.demands.specs.Corners.{corners, unknownStart, strangers}
 use Rattle.demands.specs.Mistakes.{right, mistaken}
+use Rattle.demands.specs.Charts.{loopChart}
+use Rattle.demands.specs.Sounded.{Sounded}
 
 -- All that has to be seen through for a definition to compute.
 everything : Unit {0}
-unfolding readingOf wordAt blockOf setOf shapeAllowed recordKeeps recordOf arrowsOf touchesOf gathered overfull placeIn firstBroken firstOverfull readChart has without touchSet hits touch mustGrown mayGrown mustAfter mayAfter sameAges touchAges meetAges startAges met changes metAt put putAll visitWith visit visits pass before settleFrom settle classBy finish analysed passes totalOf totals report
+unfolding readingOf wordAt blockOf setOf shapeAllowed recordKeeps recordOf arrowsOf touchesOf gathered overfull placeIn firstBroken firstOverfull readChart has without touchSet hits touch mustGrown mayGrown mustAfter mayAfter sameAges touchAges meetAges startAges met changes metAt put putAll visitWith visit visits pass before settleFrom settle classBy finish analysed passes checked totalOf totals report
 everything = tt
 
--- Every sounding of a list gives what is wanted.
-abbrev pub Hold : List Sounding → Type 0
-Hold soundings = map (λ (s : Sounding). s .given) soundings ≡ map (λ (s : Sounding). s .wanted) soundings
+pub loop-nodes : headerIn loopChart .nodes ≡ 3
+unfolding everything
+loop-nodes = refl
 
-pub starred-hold : Hold starred
+no-less : (n : ℕ) → n < 3 → getD (loopPrices .floors) n 0 ≤ visitsOf n (0 ∷ tenTurns)
+no-less zero h = omega arith
+no-less (suc zero) h = omega arith
+no-less (suc (suc zero)) h = omega arith
+no-less (suc (suc (suc n))) h = absurd (omega arith)
+
+no-more : (n : ℕ) → n < 3 → visitsOf n (0 ∷ tenTurns) ≤ getD (loopPrices .ceilings) n 0
+no-more zero h = omega arith
+no-more (suc zero) h = omega arith
+no-more (suc (suc zero)) h = omega arith
+no-more (suc (suc (suc n))) h = absurd (omega arith)
+
+starred-hold : Hold starred
 unfolding everything
 starred-hold = refl
 
--- The ten turns are a walk of the chart that the sample's bytes read as.
-pub loop-read : readChart loopChart ≡ accepted loop
+damaged-hold : Hold damaged
 unfolding everything
-loop-read = refl
+damaged-hold = refl
 
-pub ten-turns-walk : Walk (arrows loop) 0 tenTurns
+unanalysed-hold : Hold unanalysed
 unfolding everything
-ten-turns-walk = (inl refl, (inl refl, (inl refl, (inl refl, (inl refl, (inl refl, (inl refl, (inl refl, (inl refl, (inl refl, (inr (inl refl), tt)))))))))))
+unanalysed-hold = refl
 
--- "A chart and its report, whole", and the numbers that the program goes by.
-pub sample-report : report loopChart ≡ loopReport
+unchecked-hold : Hold unchecked
 unfolding everything
-sample-report = refl
+unchecked-hold = refl
 
-pub program-numbers : (longest ≡ 2056) × (allPasses ≡ 262401)
-program-numbers = (refl, refl)
-
--- Every refusal but 10.
-pub refusals-hold : Hold refusals
+untotalled-hold : Hold untotalled
 unfolding everything
-refusals-hold = refl
+untotalled-hold = refl
 
-pub right-hold : Hold right
+right-hold : Hold right
 unfolding everything
 right-hold = refl
 
-pub mistaken-hold : Hold mistaken
+mistaken-hold : Hold mistaken
 unfolding everything
 mistaken-hold = refl
+
+looser-hold : Hold looser
+unfolding everything
+looser-hold = refl
+
+summed-hold : Hold summed
+unfolding everything
+summed-hold = refl
+
+corners-hold : Hold corners
+unfolding everything
+corners-hold = refl
+
+strangers-formed : Begins unknownStart strangers
+unfolding everything
+strangers-formed = record { short = short; different = different; own = own }
+  where
+    short : (set : ℕ) → length (strangers set) ≤ 2
+    short zero = omega arith
+    short (suc set) = omega arith
+
+    different : (set : ℕ) → Different (strangers set)
+    different zero = (((λ e. omega arith), tt), (tt, tt))
+    different (suc set) = tt
+
+    own : (set : ℕ) → AllOf (keyOf unknownStart) set (strangers set)
+    own zero = (refl, (refl, tt))
+    own (suc set) = tt
+
+pub sounded : Sounded
+unfolding everything
+sounded =
+    record {
+      starred-hold = starred-hold;
+      ten-turns-walk = record {
+        read = refl;
+        begins = λ set. refl;
+        walk = (inl refl, (inl refl, (inl refl, (inl refl, (inl refl, (inl refl, (inl refl, (inl refl, (inl refl, (inl refl, (inr (inl refl), tt)))))))))));
+      };
+      last-node = λ p. omega (arith, p .1 .1 .1 .1 .1 .1 .1 .1 .1 .1 .1);
+      walk-goes-on = onward-more;
+      strangers-begin = strangers-formed;
+      ten-turns-within = record { no-less = no-less; no-more = no-more };
+      loop-checked = refl;
+      loop-totals = refl;
+      sample-report = refl;
+      longest-chart = refl;
+      passes-allowed = refl;
+      damaged-hold = damaged-hold;
+      unanalysed-hold = unanalysed-hold;
+      unchecked-hold = unchecked-hold;
+      looser-hold = looser-hold;
+      untotalled-hold = untotalled-hold;
+      summed-hold = summed-hold;
+      corners-hold = corners-hold;
+      right-hold = right-hold;
+      mistaken-hold = mistaken-hold;
+    }

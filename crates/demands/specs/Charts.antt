@@ -17,6 +17,13 @@ oneSetOneWay = 0x01 ∷ 0x40 ∷ 0x10 ∷ 0x00 ∷ 0x00 ∷ 0x30 ∷ 0x00 ∷ 0x
 abbrev pub twoSetsOneWay : List ℕ
 twoSetsOneWay = 0x01 ∷ 0x41 ∷ 0x10 ∷ 0x00 ∷ 0x00 ∷ 0x30 ∷ 0x00 ∷ 0x00 ∷ []
 
+-- S 1 and A 2, and the two fields swapped: two sets of two ways, unknown; four sets of one way, unknown.
+abbrev pub twoSetsTwoWays : List ℕ
+twoSetsTwoWays = 0x01 ∷ 0x41 ∷ 0x20 ∷ 0x00 ∷ 0x00 ∷ 0x30 ∷ 0x00 ∷ 0x00 ∷ []
+
+abbrev pub fourSetsOneWay : List ℕ
+fourSetsOneWay = 0x01 ∷ 0x42 ∷ 0x10 ∷ 0x00 ∷ 0x00 ∷ 0x30 ∷ 0x00 ∷ 0x00 ∷ []
+
 -- ---- charts
 
 -- "A chart and its report, whole": step 0 to node 1; node 1 reads 0 and leads to 1 and 2; node 2 reads 0.

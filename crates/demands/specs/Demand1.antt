@@ -1,15 +1,16 @@
 -- Demand 1: "Any bytes and any buffer lengths get an answer or a numbered refusal. What a refusal returns and leaves behind, and when
 -- each is given, is written down."
--- The definitions answer for every input whatever; this is what they say of each refusal, of all the functions.
+-- The definitions answer for every input whatever; this is what they say of each refusal of the reader, of the header alone, of the
+-- analysis, of the checker and of the totals. Proved as `demand1` in proofs/Demand1.antt.
 use Prim.Native.Nat.{ℕ, _≤_, _<_}
 use mathlib.Core.Path.{_≡_}
 use mathlib.Core.Bool.{true, false}
-use mathlib.Core.List.{List}
+use mathlib.Core.List.{List, [], _∷_}
 use mathlib.Core.Logic.{_⊎_}
-use lib.ListN.{length, take, replicate}
-use Rattle.lists.specs.Choice.{FirstApplies, NoneApplies}
+use lib.ListN.{length, replicate, getD}
+use Rattle.lists.specs.Choice.{FirstApplies, Rule, _⇒_}
 use Rattle.chart.specs.declared.refusals.Refusal.{Refusal}
-use Rattle.chart.specs.declared.refusals.Refusal.the-variants.{ShortBuffer, Unsettled}
+use Rattle.chart.specs.declared.refusals.Refusal.the-variants.{ShortBuffer, Unsettled, NotPassing}
 use Rattle.chart.specs.declared.headers.HeaderRead.the-variants.{Refused as HeaderRefused}
 use Rattle.chart.specs.declared.readings.Verdict.the-variants.{Refused as ReaderRefused}
 use Rattle.chart.specs.Geometry.{mostBlocks}
@@ -19,7 +20,7 @@ use Rattle.chart.specs.Chart.{Chart, accepted, refused, readChart, chartRules, 
 use Rattle.chart.specs.Refusals.{numberOf, refusalWith, refusalSays}
 use Rattle.flow.specs.Pass.{pass, afterPasses}
 use Rattle.tables.specs.AgesFlow.{agesFlow}
-use Rattle.tables.specs.Lent.{Lent, agesUsed, marksUsed, tableShort}
+use Rattle.tables.specs.Lent.{Lent, tableShort, SameUsed, TablePasses}
 use Rattle.analysis.specs.Analysis.{Buffers, buffersShort, filledByZeros, refuse, analysed, analysedSays}
 use Rattle.analysis.specs.declared.Analysed.the-variants.{Settled}
 use Rattle.analysis.specs.declared.Analysed.the-variants.{Refused as AnalysisRefused}
@@ -42,23 +43,21 @@ pub record SameLengths (lent left : Buffers) : Type 0 where
   pub marks : length (left .marks) ≡ length (lent .marks)
   pub classes : length (left .classes) ≡ length (lent .classes)
 
--- Two lent tables whose used parts are there and are the same.
-pub record SameUsed (chart : Chart) (one other : Lent) : Type 0 where
-  pub must : take (agesUsed chart) (one .must) ≡ take (agesUsed chart) (other .must)
-  pub may : take (agesUsed chart) (one .may) ≡ take (agesUsed chart) (other .may)
-  pub marks : take (marksUsed chart) (one .marks) ≡ take (marksUsed chart) (other .marks)
-  pub one-long : tableShort chart one ≡ false
-  pub other-long : tableShort chart other ≡ false
+-- The numbers of some rules, in their order: "Checked in this order".
+abbrev pub numbersOf : List (Rule Refusal) → List ℕ
+numbersOf [] = []
+numbersOf ((test ⇒ refusal) ∷ rules) = numberOf refusal ∷ numbersOf rules
 
 -- Refusals 1 to 10: when they are given, that reader, analysis, checker and totals all give them and the header alone gives 1 to 8, and
 -- what they leave behind.
 pub record ReadingRefusals : Type 0 where
+  pub order : (bytes : List ℕ) → numbersOf (chartRules bytes) ≡ 1 ∷ 2 ∷ 3 ∷ 4 ∷ 5 ∷ 6 ∷ 7 ∷ 8 ∷ 9 ∷ 10 ∷ []
   pub given : (bytes : List ℕ) (refusal : Refusal) → FirstApplies (chartRules bytes) refusal → readChart bytes ≡ refused refusal
   pub only : (bytes : List ℕ) (refusal : Refusal) → readChart bytes ≡ refused refusal → FirstApplies (chartRules bytes) refusal
   -- reading the header alone gives 1 to 8, exactly by their rules, as reading the whole does
   pub header-given : (bytes : List ℕ) (refusal : Refusal) → FirstApplies (headerRules bytes) refusal → headerRead bytes ≡ HeaderRefused refusal
   pub header-only : (bytes : List ℕ) (refusal : Refusal) → headerRead bytes ≡ HeaderRefused refusal → FirstApplies (headerRules bytes) refusal
-  pub to-header : (bytes : List ℕ) (refusal : Refusal) → headerRead bytes ≡ HeaderRefused refusal → readChart bytes ≡ refused refusal
+  pub from-header : (bytes : List ℕ) (refusal : Refusal) → headerRead bytes ≡ HeaderRefused refusal → readChart bytes ≡ refused refusal
   pub to-reader : (bytes : List ℕ) (refusal : Refusal) → readChart bytes ≡ refused refusal → reading bytes ≡ record { verdict = ReaderRefused refusal; blocks = replicate mostBlocks 0 }
   pub to-analysis : (bytes : List ℕ) (refusal : Refusal) (allowance : ℕ) (lent : Buffers)
       → readChart bytes ≡ refused refusal
@@ -87,11 +86,30 @@ pub record CheckerRefusals (bytes : List ℕ) (chart : Chart) (table : Lent) : T
   pub short : tableShort chart table ≡ true → checked bytes table ≡ CheckerRefused ShortBuffer
   pub answers : tableShort chart table ≡ false → (checked bytes table ≡ Passes) ⊎ (checked bytes table ≡ Fails)
 
--- The totals of an accepted chart: the first of 11 and 13 to 17 that applies, else the two sums.
+-- A floor and a ceiling for each node; "a miss costs at least a hit".
+pub record Priced (chart : Chart) (prices : Prices) : Type 0 where
+  pub floors-long : length (prices .floors) ≡ chart .header .nodes
+  pub ceilings-long : length (prices .ceilings) ≡ chart .header .nodes
+  pub costs : prices .hitCost ≤ prices .missCost
+
+-- What has to hold for sums to be given: rows 11 and 13 to 17 turned round, as statements.
+pub record Summable (chart : Chart) (table : Lent) (prices : Prices) : Type 0 where
+  pub passes : TablePasses chart table
+  pub priced : Priced chart prices
+  pub not-crossed : (n : ℕ) → n < chart .header .nodes → getD (prices .floors) n 0 ≤ getD (prices .ceilings) n 0
+  pub none-unmarked : (n : ℕ) → n < chart .header .nodes → getD (table .marks) n 0 ≡ 0 → getD (prices .floors) n 0 ≡ 0
+
+-- The totals of an accepted chart: exactly the first of 11 and 13 to 17 that applies, else the two sums. 11 and 13 are the checker's
+-- refusal and its no.
 pub record TotalsRefusals (bytes : List ℕ) (chart : Chart) (table : Lent) (prices : Prices) : Type 0 where
   pub given : (refusal : Refusal) → FirstApplies (totalRules chart table prices) refusal → totals bytes table prices ≡ TotalsRefused refusal
-  pub sums : NoneApplies (totalRules chart table prices)
+  pub only : (refusal : Refusal) → totals bytes table prices ≡ TotalsRefused refusal → FirstApplies (totalRules chart table prices) refusal
+  pub order : numbersOf (totalRules chart table prices) ≡ 11 ∷ 13 ∷ 14 ∷ 15 ∷ 16 ∷ 17 ∷ []
+  pub sums : Summable chart table prices
       → totals bytes table prices ≡ Between (lowTotal chart table prices) (highTotal chart table prices)
+  pub only-sums : (low high : ℕ) → totals bytes table prices ≡ Between low high → Summable chart table prices
+  pub short : checked bytes table ≡ CheckerRefused ShortBuffer → totals bytes table prices ≡ TotalsRefused ShortBuffer
+  pub fails : checked bytes table ≡ Fails → totals bytes table prices ≡ TotalsRefused NotPassing
 
 pub record Demand1 : Type 0 where
   pub readings : ReadingRefusals
@@ -111,11 +129,22 @@ pub record Demand1 : Type 0 where
       → (totalsSay (totals bytes table prices) .number ≤ 17) × (totalsSay (totals bytes table prices) .number ≡ 12 → ⊥)
   -- "Every refusal returns its number and place, with pass count, block count and totals 0, save that 12 also returns the allowance
   -- and B."
+  pub header-refusal : (bytes : List ℕ) (refusal : Refusal) → headerRead bytes ≡ HeaderRefused refusal → headerSays (headerRead bytes) ≡ refusalWith 0 0 refusal
+  pub reading-refusal : (bytes : List ℕ) (refusal : Refusal) → reading bytes .verdict ≡ ReaderRefused refusal → verdictSays (reading bytes .verdict) ≡ refusalWith 0 0 refusal
+  pub analysis-refusal : (bytes : List ℕ) (allowance : ℕ) (lent : Buffers) (refusal : Refusal)
+      → analysed bytes allowance lent .answer ≡ AnalysisRefused refusal
+      → (numberOf refusal ≡ 12 → ⊥)
+      → analysedSays (analysed bytes allowance lent .answer) ≡ refusalWith 0 0 refusal
+  pub checker-refusal : (bytes : List ℕ) (table : Lent) (refusal : Refusal) → checked bytes table ≡ CheckerRefused refusal → checkedSays (checked bytes table) ≡ refusalWith 0 0 refusal
+  pub totals-refusal : (bytes : List ℕ) (table : Lent) (prices : Prices) (refusal : Refusal)
+      → totals bytes table prices ≡ TotalsRefused refusal
+      → totalsSay (totals bytes table prices) ≡ refusalWith 0 0 refusal
   pub refusal-values : (refusal : Refusal) → (numberOf refusal ≡ 12 → ⊥) → refusalSays refusal ≡ refusalWith 0 0 refusal
   pub unsettled-values : (allowance blocks : ℕ) → refusalSays (Unsettled allowance blocks) ≡ refusalWith allowance blocks (Unsettled allowance blocks)
   -- no buffer grows or shrinks
   pub same-lengths : (bytes : List ℕ) (allowance : ℕ) (lent : Buffers) → SameLengths lent (analysed bytes allowance lent .buffers)
-  -- "Both read only the used parts of a lent table"
+  -- "Both read only the used parts of a lent table; neither writes to anything lent": what is lent to them are `&` slices, which cannot
+  -- be written to
   pub checker-used : (bytes : List ℕ) (chart : Chart) (one other : Lent)
       → readChart bytes ≡ accepted chart
       → SameUsed chart one other

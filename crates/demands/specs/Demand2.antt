@@ -1,6 +1,8 @@
 -- Demand 2: "Ages are those of the published LRU must and may analysis. A checker passes a table exactly when it meets the equations of
 -- document 01. The built-in analysis is refused only as 01 lists; otherwise its table passes and is the tightest of all that pass."
--- (That it is refused only as 01 lists is `Demand1.readings` and `Demand1.analysis`.)
+-- (The ages are those of that analysis by definition: cache/specs/Ages.antt. That the analysis is refused only as 01 lists is
+-- `Demand1.readings` and `Demand1.analysis`.)
+-- Proved as `demand2` in proofs/Demand2.antt.
 use Prim.Native.Nat.{ℕ, suc, _≤_, _<_}
 use mathlib.Core.Path.{_≡_}
 use mathlib.Core.Bool.{true, false}
@@ -17,6 +19,10 @@ use Rattle.analysis.specs.declared.Analysed.the-variants.{Settled}
 use Rattle.analysis.specs.Analysis.{Buffers, buffersShort, filledBy, tableIn, analysed}
 use Rattle.checker.specs.Checker.{checked, checkedSays}
 use Rattle.report.specs.Report.{taken, zeroBuffers}
+
+-- The checker says yes.
+abbrev pub CheckerPasses : List ℕ → Lent → Type 0
+CheckerPasses bytes table = checkedSays (checked bytes table) .yes ≡ 1
 
 -- What holds of a chart, of the buffers lent and of the buffers left by an analysis that settled after so many passes.
 pub record Settles (chart : Chart) (passes blocks : ℕ) (lent left : Buffers) : Type 0 where
@@ -43,12 +49,12 @@ pub record Demand2 : Type 0 where
   -- the checker says yes exactly if the table passes
   pub checker-yes : (bytes : List ℕ) (chart : Chart) (table : Lent)
       → readChart bytes ≡ accepted chart
-      → checkedSays (checked bytes table) .yes ≡ 1
+      → CheckerPasses bytes table
       → TablePasses chart table
   pub yes-checker : (bytes : List ℕ) (chart : Chart) (table : Lent)
       → readChart bytes ≡ accepted chart
       → TablePasses chart table
-      → checkedSays (checked bytes table) .yes ≡ 1
+      → CheckerPasses bytes table
   -- an analysis that settles leaves the tightest table, which the checker passes
   pub settled : (bytes : List ℕ) (chart : Chart) (allowance passes blocks : ℕ) (lent : Buffers)
       → readChart bytes ≡ accepted chart
@@ -56,14 +62,14 @@ pub record Demand2 : Type 0 where
       → Settles chart passes blocks lent (analysed bytes allowance lent .buffers)
   pub settled-yes : (bytes : List ℕ) (allowance passes blocks : ℕ) (lent : Buffers)
       → analysed bytes allowance lent .answer ≡ Settled passes blocks
-      → checkedSays (checked bytes (tableIn (analysed bytes allowance lent .buffers))) .yes ≡ 1
+      → CheckerPasses bytes (tableIn (analysed bytes allowance lent .buffers))
   -- an accepted chart with room settles within every allowance of at least N(1 + 2BA) + 1 passes
   pub enough : (bytes : List ℕ) (chart : Chart) (allowance : ℕ) (lent : Buffers)
       → readChart bytes ≡ accepted chart
       → buffersShort chart lent ≡ false
       → mostPasses chart ≤ allowance
       → (passes : ℕ) × (analysed bytes allowance lent .answer ≡ Settled passes (blockCount chart))
-  -- so the program, which allows 262,401 and has room for the largest chart, reports every accepted chart
+  -- so the analysis settles with the program's allowance, 262,401, and buffers, which have room for the largest chart
   pub program-settles : (input : List ℕ) (chart : Chart)
       → readChart (taken input) ≡ accepted chart
       → (passes : ℕ) × (analysed (taken input) allPasses (zeroBuffers mostNodes mostBlocks) .answer ≡ Settled passes (blockCount chart))

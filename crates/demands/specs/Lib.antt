@@ -1,8 +1,12 @@
-pub mod Machine
+pub mod Demands
 pub mod Demand1
 pub mod Demand2
 pub mod Demand3
+pub mod Machine
 pub mod Charts
 pub mod Soundings
 pub mod Refused
+pub mod Tabled
+pub mod Corners
 pub mod Mistakes
+pub mod Sounded

@@ -1,16 +1,14 @@
--- A chart damaged in one place at a time: which refusal it gives and where, and what 12 leaves behind. Document 01, "When the tool says
--- no", every row but 10, which takes 65 blocks and is run by the tests.
+-- Refusals 1 to 12 on charts that are written out: the loop chart damaged in one place at a time, lent too little, and allowed too few
+-- passes; beside each kind one case with nothing wrong. Document 01, "When the tool says no", rows 1 to 12 but 10, which takes 65 blocks and
+-- is run by the tests.
 use Prim.Native.Nat.{ℕ}
 use mathlib.Core.List.{List, [], _∷_, _++_}
 use lib.ListN.{replicate, set, take}
 use Rattle.chart.specs.Refusals.{Said}
 use Rattle.chart.specs.Reading.{reading, verdictSays}
-use Rattle.tables.specs.Lent.{Lent}
-use Rattle.analysis.specs.Analysis.{Buffers, tableIn, analysed, analysedSays}
-use Rattle.report.specs.Report.{zeroBuffers}
-use Rattle.totals.specs.Totals.{Prices, totals, totalsSay}
+use Rattle.analysis.specs.Analysis.{Buffers, analysed, analysedSays}
 use Rattle.demands.specs.Charts.{loopChart}
-use Rattle.demands.specs.Soundings.{Sounding, _reads_, after, loopPrices}
+use Rattle.demands.specs.Soundings.{Sounding, _reads_}
 
 -- The number and the place.
 abbrev pub numberAndPlace : Said → List ℕ
@@ -21,6 +19,7 @@ numberAndPlace said = said .number ∷ said .place ∷ []
 abbrev pub read : List ℕ → List ℕ
 read bytes = numberAndPlace (verdictSays (reading bytes .verdict))
 
+-- The number and the place that the reader says.
 abbrev pub damaged : List Sounding
 damaged =
     -- nothing wrong, and 1: seven bytes
@@ -40,7 +39,7 @@ damaged =
     ∷ (read (set loopChart 7 0x80) reads (7 ∷ 0 ∷ []))
     ∷ (read (take 31 loopChart) reads (8 ∷ 0 ∷ []))
     ∷ (read (loopChart ++ 0x00 ∷ []) reads (8 ∷ 0 ∷ []))
-    -- 9: kind 3 at node 2; a bare step with an address at node 0; an arrow to N at node 1; one that is not used at node 2
+    -- 9: kind 3 at node 2; a bare step with an address at node 0; an arrow to N at node 1; an unused arrow that is not 0 at node 2
     ∷ (read (set loopChart 24 0xC0) reads (9 ∷ 2 ∷ []))
     ∷ (read (set loopChart 11 0x04) reads (9 ∷ 0 ∷ []))
     ∷ (read (set loopChart 23 0x30) reads (9 ∷ 1 ∷ []))
@@ -67,6 +66,7 @@ sevens blocks must may marks classes =
 abbrev pub unsettled : Buffers
 unsettled = analysed loopChart 1 (sevens 2 4 4 4 4) .buffers
 
+-- The number and the place that the analysis says, and what it leaves.
 abbrev pub unanalysed : List Sounding
 unanalysed =
     -- each buffer one short, then none
@@ -85,35 +85,3 @@ unanalysed =
     ∷ (unsettled .marks reads (0 ∷ 0 ∷ 0 ∷ 7 ∷ []))
     ∷ (unsettled .classes reads (0 ∷ 0 ∷ 0 ∷ 7 ∷ []))
     ∷ []
-
--- ---- 13 to 17, by the totals
-
-abbrev pub totalling : List ℕ → Lent → Prices → List ℕ
-totalling bytes table prices = numberAndPlace (totalsSay (totals bytes table prices))
-
-abbrev pub loopTable : Lent
-loopTable = tableIn (after loopChart)
-
-abbrev pub priced : ℕ → ℕ → List ℕ → List ℕ → Prices
-priced hitCost missCost floors ceilings =
-    record { hitCost = hitCost; missCost = missCost; floors = floors; ceilings = ceilings }
-
--- The loop chart without the way out of its loop: node 2 is not reached.
-abbrev pub endless : List ℕ
-endless = set (set loopChart 20 0x10) 23 0x00
-
-abbrev pub untotalled : List Sounding
-untotalled =
-    (totalling loopChart loopTable loopPrices reads (0 ∷ 0 ∷ []))
-    -- 11: a table of two nodes; 13: a table of zeros
-    ∷ (totalling loopChart (tableIn (zeroBuffers 2 1)) loopPrices reads (11 ∷ 0 ∷ []))
-    ∷ (totalling loopChart (tableIn (zeroBuffers 3 1)) loopPrices reads (13 ∷ 0 ∷ []))
-    -- 14: two floors; 15: a miss below a hit; 16: floor 2, ceiling 1 at node 2; 17: floor 1 at node 2, which is not marked
-    ∷ (totalling loopChart loopTable (priced 1 10 (1 ∷ 1 ∷ []) (1 ∷ 10 ∷ 1 ∷ [])) reads (14 ∷ 0 ∷ []))
-    ∷ (totalling loopChart loopTable (priced 10 1 (1 ∷ 1 ∷ 1 ∷ []) (1 ∷ 10 ∷ 1 ∷ [])) reads (15 ∷ 0 ∷ []))
-    ∷ (totalling loopChart loopTable (priced 1 10 (1 ∷ 1 ∷ 2 ∷ []) (1 ∷ 10 ∷ 1 ∷ [])) reads (16 ∷ 2 ∷ []))
-    ∷ (totalling endless (tableIn (after endless)) loopPrices reads (17 ∷ 2 ∷ []))
-    ∷ []
-
-abbrev pub refusals : List Sounding
-refusals = damaged ++ (unanalysed ++ untotalled)

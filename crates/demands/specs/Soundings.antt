@@ -1,7 +1,8 @@
 -- The starred soundings of document 01, "Soundings on both sides of the mark", as one list: what the definitions give, and what the
 -- paper says.
 use Prim.Native.Nat.{ℕ}
-use mathlib.Core.List.{List, [], _∷_, _++_}
+use mathlib.Core.Path.{_≡_}
+use mathlib.Core.List.{List, [], _∷_, _++_, map}
 use lib.ListN.{replicate}
 use Rattle.chart.specs.Header.{headerIn}
 use Rattle.chart.specs.Chart.{Chart, chartIn}
@@ -9,8 +10,8 @@ use Rattle.cache.specs.Ages.{Columns, Ages, touchAges, meetAges}
 use Rattle.cache.specs.Plain.{emptyCache}
 use Rattle.tables.specs.AgesFlow.{allPasses}
 use Rattle.analysis.specs.Analysis.{Buffers, tableIn, analysed}
-use Rattle.report.specs.Report.{zeroBuffers}
 use Rattle.totals.specs.Totals.{Prices, totals, totalsSay}
+use Rattle.report.specs.Report.{zeroBuffers}
 use Rattle.demands.specs.Machine.{costOf}
 use Rattle.demands.specs.Charts.{oneSetTwoWaysEmpty, oneSetTwoWays, oneSetOneWay, twoSetsOneWay, loopChart, straightChart}
 
@@ -69,6 +70,10 @@ pub record Sounding : Type 0 where
 infix 30 _reads_
 abbrev pub _reads_ : List ℕ → List ℕ → Sounding
 given reads wanted = record { given = given; wanted = wanted }
+
+-- Every sounding of a list gives what is wanted.
+abbrev pub Hold : List Sounding → Type 0
+Hold soundings = map (λ (s : Sounding). s .given) soundings ≡ map (λ (s : Sounding). s .wanted) soundings
 
 abbrev pub row : List ℕ
 row = 0 ∷ 1 ∷ 1 ∷ 3 ∷ 4 ∷ []

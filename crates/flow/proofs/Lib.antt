@@ -3,5 +3,7 @@ pub mod Settling
 pub mod Ending
 pub mod Reaching
 pub mod Turns
+pub mod Walking
+pub mod Paying
 pub mod Outcomes
 pub mod Counting

@@ -11,6 +11,11 @@ use Rattle.flow.specs.Pass.{settled, settle, afterPasses}
 use Rattle.flow.specs.Laws.{Laws}
 use Rattle.flow.specs.Walk.{Onward, lastOf, Reached}
 
+-- A walk goes on along any arrow of its last node.
+pub onward-more : (arrows : ℕ → List ℕ) (n t : ℕ) (ts : List ℕ) → Onward arrows n ts → Among t (arrows (lastOf n ts)) → Onward arrows n (ts ++ t ∷ [])
+onward-more arrows n t [] w i = (i, tt)
+onward-more arrows n t (k ∷ ts) w i = (w .0, onward-more arrows k t ts (w .1) i)
+
 module _ (F : Flow) where
   -- A walk reaches n, step by step.
   pub data Reach : ℕ → Type 0 where
@@ -35,10 +40,6 @@ module _ (F : Flow) where
   reach-onward n [] r w = r
   reach-onward n (t ∷ ts) r w = reach-onward t ts (onward r (w .0)) (w .1)
 
-  onward-snoc : (n t : ℕ) (ts : List ℕ) → Onward (F .arrows) n ts → Among t (F .arrows (lastOf n ts)) → Onward (F .arrows) n (ts ++ t ∷ [])
-  onward-snoc n t [] w i = (i, tt)
-  onward-snoc n t (k ∷ ts) w i = (w .0, onward-snoc k t ts (w .1) i)
-
   last-snoc : (n t : ℕ) (ts : List ℕ) → lastOf n (ts ++ t ∷ []) ≡ t
   last-snoc n t [] = refl
   last-snoc n t (k ∷ ts) = last-snoc k t ts
@@ -48,7 +49,7 @@ module _ (F : Flow) where
   reach-reached (onward {n = n} {t = t} r i) = go (reach-reached r)
     where
       go : Reached (F .arrows) (F .entry) n → Reached (F .arrows) (F .entry) t
-      go w = (w .0 ++ t ∷ [], (onward-snoc (F .entry) t (w .0) (w .1 .0) (subst (λ (k : ℕ). Among t (F .arrows k)) (sym (w .1 .1)) i), last-snoc (F .entry) t (w .0)))
+      go w = (w .0 ++ t ∷ [], (onward-more (F .arrows) (F .entry) t (w .0) (w .1 .0) (subst (λ (k : ℕ). Among t (F .arrows k)) (sym (w .1 .1)) i), last-snoc (F .entry) t (w .0)))
 
   pub reached-reach : (n : ℕ) → Reached (F .arrows) (F .entry) n → Reach n
   reached-reach n w = subst Reach (w .1 .1) (reach-onward (F .entry) (w .0) at-entry (w .1 .0))

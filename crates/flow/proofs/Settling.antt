@@ -220,9 +220,6 @@ module _ (F : Flow) (L : Laws F) where
   after-fair zero = before-fair
   after-fair (suc k) = pass-fair (afterPasses F k) (after-fair k)
 
-  pub after-under : (k : ℕ) (P : Table F) → Passing F P → Under F (afterPasses F k) P
-  after-under k = after-fair k .under
-
   settleFrom-tight : (f c : ℕ) (T : Table F) (b : Bool) → Fair T → (b ≡ false → Passing F T) → (k : ℕ) (U : Table F) → settleFrom F f c T b ≡ settled k U → Tightest F U
   unfolding settleFrom
   settleFrom-tight zero c T false f p k U e = let q : T ≡ U = cc in subst (Tightest F) q (fair-tightest T f (p refl))

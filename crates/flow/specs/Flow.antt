@@ -16,7 +16,8 @@ pub data Cell (X : Type 0) : Type 0 where
 abbrev pub cellAt : {X : Type 0} → List (Cell X) → ℕ → Cell X
 cellAt table n = getD table n blank
 
-abbrev pub Among : ℕ → List ℕ → Type 0
+-- It stands somewhere in the list.
+abbrev pub Among : {X : Type 0} → X → List X → Type 0
 Among t [] = ⊥
 Among t (x ∷ xs) = (t ≡ x) ⊎ Among t xs
 

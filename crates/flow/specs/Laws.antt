@@ -1,4 +1,4 @@
--- What the theory of passes asks of a flow.
+-- What the theory of passes asks of a flow. Nothing here is document 01's; ages keep these laws (`tables`).
 -- `Ok` is what a passing table has at each marked node, whoever made the table. `Real n` is what the states have, besides, that
 -- passes bring to node n: for a step that keeps the order only from such states, and for facts that are to be carried along. Where
 -- neither is needed, `Real n` is `Ok`.

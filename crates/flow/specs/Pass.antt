@@ -26,7 +26,7 @@ module _ (F : Flow) where
   changes blank a = true
   changes (holds b) a = not (F .same (F .meet b a) b)
 
-  -- The step that every engine shares: a state met into what t holds.
+  -- A state met into what t holds.
   unfoldable pub metAt : Table F → ℕ → F .State → Table F
   metAt table t a = set table t (met (cellAt table t) a)
 

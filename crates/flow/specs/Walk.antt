@@ -62,7 +62,7 @@ module _ {E : Type 0} (M : Machine E) where
   paid hit miss touches n (t ∷ ts) c =
       paidAt hit miss (touches n) c + paid hit miss touches t ts (inTurn (M .act) (touches n) c)
 
-  -- The contents on arrival at the last node of the walk n, ts.
-  abbrev pub arriving : (ℕ → List E) → ℕ → List ℕ → M .Contents → M .Contents
-  arriving touches n [] c = c
-  arriving touches n (t ∷ ts) c = arriving touches t ts (inTurn (M .act) (touches n) c)
+  -- P holds at each node of the walk n, ts, with the contents that the machine arrives with.
+  abbrev pub AtNodes : (ℕ → M .Contents → Type 0) → (ℕ → List E) → ℕ → List ℕ → M .Contents → Type 0
+  AtNodes P touches n [] c = P n c
+  AtNodes P touches n (t ∷ ts) c = P n c × AtNodes P touches t ts (inTurn (M .act) (touches n) c)

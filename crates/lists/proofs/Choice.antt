@@ -7,7 +7,7 @@ use Prim.Native.Nat.{ℕ, zero, suc, _+_, _-_, _≤_, _<_}
 use native.Mathlib.Numerals.{add-one}
 use native.Mathlib.Omega.{arith}
 use native.Mathlib.Decide.{ℕ-discrete}
-use borrow.Author.Tests.{ltb-false}
+use borrow.Author.Tests.{ltb-false, le-ltb}
 use lib.Dec.{ltb}
 use Rattle.lists.specs.Choice.{Rule, _⇒_, firstRule, NoneApplies, FirstApplies, firstFrom, first, every}
 
@@ -142,6 +142,30 @@ none-passes n test e i h =
     let high = first-most 0 n test in
     let z : 0 + i ≡ i = omega arith in
     rw z at (tried 0 n test (omega arith) i h)
+
+-- Where none passes, the search ends past them.
+first-all : (k left : ℕ) (test : ℕ → Bool) → ((i : ℕ) → k ≤ i → i < k + left → test i ≡ false) → firstFrom k left test ≡ k + left
+first-all k zero test fails = omega arith
+first-all k (suc left) test fails =
+    let here : test k ≡ false = fails k (omega arith) (omega arith) in
+    let rest = first-all (suc k) left test (λ i a b. fails i (omega arith) (omega arith)) in
+    rw here (omega arith)
+
+pub passes-none : (n : ℕ) (test : ℕ → Bool) → ((i : ℕ) → i < n → test i ≡ false) → ltb (first n test) n ≡ false
+passes-none n test fails =
+    let ends = first-all 0 n test (λ i a b. fails i (omega arith)) in
+    le-ltb (first n test) n (omega arith)
+
+-- Two tests that tell the same of each number below n.
+firstFrom-same : (k left : ℕ) (one other : ℕ → Bool) → ((i : ℕ) → i < k + left → one i ≡ other i) → firstFrom k left one ≡ firstFrom k left other
+firstFrom-same k zero one other same = refl
+firstFrom-same k (suc left) one other same =
+    let here : one k ≡ other k = same k (omega arith) in
+    let rest : firstFrom (suc k) left one ≡ firstFrom (suc k) left other = firstFrom-same (suc k) left one other (λ i h. same i (omega arith)) in
+    rw (here, rest)
+
+pub first-same : (n : ℕ) (one other : ℕ → Bool) → ((i : ℕ) → i < n → one i ≡ other i) → first n one ≡ first n other
+first-same n one other same = firstFrom-same 0 n one other (λ i h. same i (omega arith))
 
 -- ---- every number
 

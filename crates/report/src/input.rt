@@ -19,7 +19,8 @@ pub const TAKEN: usize = 8 + 8 * Geometry::NODES + 1;
 const AGES: usize = Geometry::NODES * Geometry::BLOCKS;
 
 // The passes that are enough for every chart.
-const PASSES: usize = Geometry::NODES * (1 + 2 * Geometry::BLOCKS * Geometry::WAYS as usize) + 1;
+pub const PASSES: usize = Geometry::NODES * (1 + 2 * Geometry::BLOCKS * Geometry::WAYS as usize)
+    + 1;
 
 // The number of nodes in the header of any bytes, or 0 where it is refused.
 fn nodes_of(chart: &[u8]) -> usize

@@ -8,7 +8,7 @@ ghost use Rattle.cache.specs.Ages.{mustGrown, mayGrown, touchAges};
 ghost use Rattle.rows.specs.Rows.{columnsBy, agesIn, rowOf, WorkIn, afterWork};
 use chart::Geometry;
 
-// The must and may ages of a chart's blocks, in the list's order.
+// The must and may ages of a chart's blocks, in the list's order; no answer depends on the places past them.
 pub struct Row {
     pub must: [u8; Geometry::BLOCKS],
     pub may: [u8; Geometry::BLOCKS],

@@ -4,3 +4,4 @@ pub mod Stepping
 pub mod Ageing
 pub mod Settled
 pub mod Meeting
+pub mod Used

@@ -8,6 +8,7 @@ use Prim.Native.Nat.{ℕ, _<_}
 use native.Mathlib.Omega.{arith}
 use borrow.Author.Tests.{eqb-false}
 use lib.Dec.{eqb}
+use lib.ListN.{getD}
 use Rattle.chart.specs.declared.records.Node.{Node}
 use Rattle.chart.specs.declared.records.Record.{Record}
 use Rattle.chart.specs.declared.records.Record.the-variants.{Step, Reference}
@@ -41,15 +42,22 @@ module _ (bytes : List ℕ) (chart : Chart) (read : readChart bytes ≡ accepted
   pub arrow-inside : (n t : ℕ) → n < chart .header .nodes → Among t (arrows chart n) → t < chart .header .nodes
   arrow-inside n t h = leads-in (chart .header .nodes) (chart .node n) (accepted-arrows bytes chart read n h) t
 
-  pub column-inside : (n : ℕ) → n < chart .header .nodes → (block : ℕ) → Among block (touches chart n) → columnOf chart block < blockCount chart
+  -- A block that a node touches has a column, and stands there.
+  column-both : (n : ℕ) → n < chart .header .nodes → (block : ℕ) → Among block (touches chart n) → (columnOf chart block < blockCount chart) × (getD (chart .blocks) (columnOf chart block) 0 ≡ block)
   unfolding touchesOf
-  column-inside n h block i = go (chart .node n .what) refl i
+  column-both n h block i = go (chart .node n .what) refl i
     where
-      go : (what : Record) → chart .node n .what ≡ what → Among block (touchesOf (chart .header .geometry) what) → columnOf chart block < blockCount chart
+      go : (what : Record) → chart .node n .what ≡ what → Among block (touchesOf (chart .header .geometry) what) → (columnOf chart block < blockCount chart) × (getD (chart .blocks) (columnOf chart block) 0 ≡ block)
       go Step e i = absurd i
       go (Reference reference) e (inl q) =
-          accepted-column bytes chart read n h block (ap (touchesOf (chart .header .geometry)) e ∙ ap (λ (b : ℕ). b ∷ []) (sym q)) .0
+          accepted-column bytes chart read n h block (ap (touchesOf (chart .header .geometry)) e ∙ ap (λ (b : ℕ). b ∷ []) (sym q))
       go (Reference reference) e (inr i) = absurd i
+
+  pub column-inside : (n : ℕ) → n < chart .header .nodes → (block : ℕ) → Among block (touches chart n) → columnOf chart block < blockCount chart
+  column-inside n h block i = column-both n h block i .0
+
+  pub column-holds : (n : ℕ) → n < chart .header .nodes → (block : ℕ) → Among block (touches chart n) → getD (chart .blocks) (columnOf chart block) 0 ≡ block
+  column-holds n h block i = column-both n h block i .1
 
   one-limit : LimitOfSet (columns chart)
   one-limit i j e = refl

@@ -2,9 +2,9 @@
 -- "When the tool says no" ("N·B must ages, N·B may ages (row after row), N marks").
 use Prim.Native.Nat.{ℕ, _+_, _*_, _≤_, _<_}
 use mathlib.Core.Path.{_≡_}
-use mathlib.Core.Bool.{Bool, cond, _||_}
+use mathlib.Core.Bool.{Bool, false, cond, _||_}
 use mathlib.Core.List.{List, map}
-use lib.ListN.{getD, length, replicate}
+use lib.ListN.{getD, length, take, replicate}
 use lib.Dec.{eqb, ltb}
 use Rattle.lists.specs.Lists.{listOf, joined, written}
 use Rattle.chart.specs.Chart.{Chart, blockCount}
@@ -29,7 +29,7 @@ marksUsed chart = chart .header .nodes
 
 -- Row n of a buffer of rows of B ages.
 abbrev pub rowAt : ℕ → List ℕ → ℕ → List ℕ
-rowAt count buffer n = listOf count (λ block. getD buffer (n * count + block) 0)
+rowAt count buffer n = listOf count (λ column. getD buffer (n * count + column) 0)
 
 abbrev pub agesAt : Chart → Lent → ℕ → Ages
 agesAt chart lent n =
@@ -40,7 +40,8 @@ abbrev pub tableOf : Chart → Lent → List (Cell Ages)
 tableOf chart lent =
     listOf (chart .header .nodes) (λ n. cond (eqb (getD (lent .marks) n 0) 0) blank (holds (agesAt chart lent n)))
 
--- "It passes exactly if": there are as many marks and ages as are used, the marks and the rows of unmarked nodes, and the equations.
+-- "It passes exactly if": there are as many marks and ages as are used; the marks are plain; the rows of unmarked nodes are zeros; and
+-- the equations hold.
 pub record TablePasses (chart : Chart) (lent : Lent) : Type 0 where
   -- "a mark .. for each node, and two ages for each node and block"
   pub must-long : agesUsed chart ≤ length (lent .must)
@@ -61,6 +62,14 @@ abbrev pub tableShort : Chart → Lent → Bool
 tableShort chart lent =
     ltb (length (lent .must)) (agesUsed chart)
     || (ltb (length (lent .may)) (agesUsed chart) || ltb (length (lent .marks)) (marksUsed chart))
+
+-- Two lent tables whose used parts are there and are the same.
+pub record SameUsed (chart : Chart) (one other : Lent) : Type 0 where
+  pub must : take (agesUsed chart) (one .must) ≡ take (agesUsed chart) (other .must)
+  pub may : take (agesUsed chart) (one .may) ≡ take (agesUsed chart) (other .may)
+  pub marks : take (marksUsed chart) (one .marks) ≡ take (marksUsed chart) (other .marks)
+  pub one-long : tableShort chart one ≡ false
+  pub other-long : tableShort chart other ≡ false
 
 -- ---- a table as it is written
 

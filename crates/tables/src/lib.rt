@@ -1,13 +1,26 @@
-// Tables of ages in lent buffers: a row loaded, or met into what is there.
+// Tables of ages: the age at the start; in lent buffers, a row loaded, filled, or met into what is there.
 ghost use mathlib.Core.Path.{_≡_};
 ghost use Prim.Native.Nat.{_+_, _*_, _≤_, _<_, max, min};
+ghost use mathlib.Core.Bool.{cond};
 ghost use lib.ListN.{length, getD};
 ghost use Rattle.lists.specs.Loops.{patch};
 ghost use Rattle.cache.specs.Ages.{Ages, ageOf};
+ghost use Rattle.tables.specs.AgesFlow.{isEmpty};
 ghost use Rattle.tables.specs.Lent.{Lent};
 ghost use Rattle.tables.specs.Inner.{LentRun, Roomy, loaded, loadedRow, larger, anyLarger, smaller, anySmaller, metInto};
 use chart::Geometry;
+use chart::Start;
 use rows::Row;
+
+// The may age that every block has at the start.
+pub fn start_age(start: Start, ways: u8) -> u8
+    ensures { λ r. ⌜ r ≡ cond (isEmpty start) ways 0 ⌝ }
+{
+    match start {
+        Start::Unknown => 0,
+        Start::Empty => ways,
+    }
+}
 
 // What stands from a place on, as much as a row holds and there is, zeros after it. A whole row's length is fixed, and so its loop's.
 fn load(buffer: &[u8], base: usize) -> [u8; Geometry::BLOCKS]

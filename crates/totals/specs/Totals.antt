@@ -1,4 +1,4 @@
--- The totals for any bytes, lent table, costs, floors and ceilings. Document 01, "Totals" and "When the tool says no" (rows 13 to 17).
+-- The totals for any bytes, lent table, costs, floors and ceilings. Document 01, "Totals" and "When the tool says no" (rows 11 and 13 to 17).
 use Prim.Native.Nat.{ℕ, _+_, _*_}
 use mathlib.Core.Bool.{not, cond, _&&_}
 use mathlib.Core.List.{List, [], _∷_}
@@ -12,13 +12,14 @@ use Rattle.chart.specs.Refusals.{Said, answerWith, refusalSays}
 use Rattle.chart.specs.Chart.{Chart, Read, accepted, refused, readChart, touches}
 use Rattle.cache.specs.Ages.{Ages}
 use Rattle.flow.specs.Flow.{Cell, blank, holds, cellAt}
-use Rattle.analysis.specs.Class.{hit, miss, classesOf}
 use Rattle.tables.specs.Lent.{Lent, tableOf, tableShort}
+use Rattle.analysis.specs.Class.{hit, miss, classesOf}
 use Rattle.checker.specs.Checker.{passes, marked}
 use Rattle.totals.specs.declared.Totals.{Totals}
 use Rattle.totals.specs.declared.Totals.the-variants.{Between, Refused}
 
--- "The caller gives a hit cost and a miss cost, and a floor and a ceiling for each node, all 16 bits."
+-- "The caller gives a hit cost and a miss cost, and a floor and a ceiling for each node, all 16 bits." Here they are any numbers: no rule
+-- and no sum depends on their width, and `totals::total` takes them in 16 bits.
 pub record Prices : Type 0 where
   pub hitCost : ℕ
   pub missCost : ℕ
@@ -33,6 +34,7 @@ highRate prices class = cond (eqb class hit) (prices .hitCost) (prices .missCost
 abbrev pub lowRate : Prices → ℕ → ℕ
 lowRate prices class = cond (eqb class miss) (prices .missCost) (prices .hitCost)
 
+-- What these classes cost at a rate, in all.
 abbrev pub ratesOf : (ℕ → ℕ) → List ℕ → ℕ
 ratesOf rate [] = 0
 ratesOf rate (class ∷ classes) = rate class + ratesOf rate classes
@@ -53,15 +55,16 @@ highTotal chart lent prices = totalOf chart lent (highRate prices) (prices .ceil
 abbrev pub lowTotal : Chart → Lent → Prices → ℕ
 lowTotal chart lent prices = totalOf chart lent (lowRate prices) (prices .floors)
 
--- Rows 11 and 13 to 17.
+-- The "first such node" of rows 16 and 17.
 abbrev pub firstCrossed : Chart → Prices → ℕ
 firstCrossed chart prices =
     first (chart .header .nodes) (λ n. ltb (getD (prices .ceilings) n 0) (getD (prices .floors) n 0))
 
-abbrev pub firstUnmarked : Chart → Lent → Prices → ℕ
-firstUnmarked chart lent prices =
+abbrev pub firstFloorAtUnmarked : Chart → Lent → Prices → ℕ
+firstFloorAtUnmarked chart lent prices =
     first (chart .header .nodes) (λ n. not (marked lent n) && ltb 0 (getD (prices .floors) n 0))
 
+-- Rows 11 and 13 to 17.
 abbrev pub totalRules : Chart → Lent → Prices → List (Rule Refusal)
 totalRules chart lent prices =
     (tableShort chart lent ⇒ ShortBuffer)
@@ -69,7 +72,7 @@ totalRules chart lent prices =
     ∷ (not (eqb (length (prices .floors)) (chart .header .nodes) && eqb (length (prices .ceilings)) (chart .header .nodes)) ⇒ BoundsLength)
     ∷ (ltb (prices .missCost) (prices .hitCost) ⇒ Costs)
     ∷ (ltb (firstCrossed chart prices) (chart .header .nodes) ⇒ FloorAboveCeiling (firstCrossed chart prices))
-    ∷ (ltb (firstUnmarked chart lent prices) (chart .header .nodes) ⇒ FloorAtUnmarked (firstUnmarked chart lent prices))
+    ∷ (ltb (firstFloorAtUnmarked chart lent prices) (chart .header .nodes) ⇒ FloorAtUnmarked (firstFloorAtUnmarked chart lent prices))
     ∷ []
 
 -- This paper's number and values for each answer.

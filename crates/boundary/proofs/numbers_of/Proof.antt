@@ -1,7 +1,4 @@
 use borrow.Author.Needs.{needs}
-use mathlib.Core.Path.{sym}
-use Rattle.chart.specs.Refusals.{refusalSays}
-use Rattle.chart.proofs.Values.{refusal-says}
 use Rattle.boundary.proofs.numbers_of.Statement.{statement}
 use Rattle.boundary.proofs.numbers_of.Tie as tie
 
@@ -36,9 +33,7 @@ returns c = rw (c .before .answer .given .1)
 -- src/lib.rt:17:1
 returns-2 : tie.Need-returns-2
 returns-2 c =
-    let refusal = c .before .before .before .before .before .answer2 .given .0 .0 in
     rw (c .before .before .before .before .before .answer2 .given .1, c .before .before .before .number .ensures, c .before .before .place .ensures, c .before .passes .ensures, c .blocks2 .ensures)
-    (λ i. record { number = sym (refusal-says refusal .number) i; place = sym (refusal-says refusal .place) i; passes = refusalSays refusal .passes; blocks = refusalSays refusal .blocks })
 
 pub numbers-of-spec : {M : Type 1} → statement M
 numbers-of-spec =

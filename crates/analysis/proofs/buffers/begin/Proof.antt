@@ -11,8 +11,8 @@ fill-requires : tie.Need-fill-requires
 fill-requires c κs = search needs
 
 -- src/buffers.rt:80:36
-may-start-requires : tie.Need-may-start-requires
-may-start-requires c κs = search needs
+start-age-requires : tie.Need-start-age-requires
+start-age-requires c κs = search needs
 
 -- src/buffers.rt:80:5
 fill-requires-2 : tie.Need-fill-requires-2
@@ -36,7 +36,7 @@ same-length-3 c = search needs
 
 -- src/buffers.rt:66:1
 returns : tie.Need-returns
-returns c = rw (c .before .before .before .before .before .before .before .fill .ensures, c .before .before .fill2 .ensures, c .before .before .before .may-start .ensures)
+returns c = rw (c .before .before .before .before .before .before .before .fill .ensures, c .before .before .fill2 .ensures, c .before .before .before .start-age .ensures)
 
 pub begin-spec : {M : Type 1} → statement M
 begin-spec =
@@ -44,7 +44,7 @@ begin-spec =
     (tie.spec
     mul-base
     fill-requires
-    may-start-requires
+    start-age-requires
     fill-requires-2
     slice-write-marks
     same-length

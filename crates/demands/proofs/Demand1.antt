@@ -1,0 +1,31 @@
+-- Demand 1: any bytes and any buffer lengths get an answer or a numbered refusal, put together from its parts.
+use Rattle.demands.specs.Demand1.{Demand1}
+use Rattle.demands.proofs.Refusals.{reading-refusals}
+use Rattle.demands.proofs.Analysing.{analysis, same-lengths}
+use Rattle.demands.proofs.Checking.{checker, checker-used}
+use Rattle.demands.proofs.Totalling.{totalling, totals-numbers, totals-refusal, totals-used}
+use Rattle.demands.proofs.Numbers.{header-numbers, reading-numbers, analysis-numbers, checker-numbers, header-refusal, reading-refusal, analysis-refusal, checker-refusal, refusal-values, unsettled-values}
+
+pub demand1 : Demand1
+demand1 =
+    record {
+      readings = reading-refusals;
+      analysis = λ bytes chart allowance lent read. analysis bytes chart allowance lent read;
+      checker = λ bytes chart table read. checker bytes chart table read;
+      totalling = λ bytes chart table prices read. totalling bytes chart table prices read;
+      header-numbers = header-numbers;
+      reading-numbers = reading-numbers;
+      analysis-numbers = analysis-numbers;
+      checker-numbers = checker-numbers;
+      totals-numbers = totals-numbers;
+      header-refusal = header-refusal;
+      reading-refusal = reading-refusal;
+      analysis-refusal = analysis-refusal;
+      checker-refusal = checker-refusal;
+      totals-refusal = totals-refusal;
+      refusal-values = refusal-values;
+      unsettled-values = unsettled-values;
+      same-lengths = same-lengths;
+      checker-used = λ bytes chart one other read same. checker-used bytes chart one other read same;
+      totals-used = λ bytes chart one other prices read same. totals-used bytes chart one other prices read same;
+    }

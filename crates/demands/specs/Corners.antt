@@ -1,0 +1,43 @@
+-- Corners that document 01's soundings leave out: several sets of several ways and the two fields swapped, long and short lines, each class,
+-- and a start with a block that the chart does not have.
+use Prim.Native.Nat.{ℕ, zero, suc}
+use mathlib.Core.List.{List, [], _∷_}
+use Rattle.chart.specs.declared.shape.Geometry.{Geometry}
+use Rattle.chart.specs.declared.refusals.Refusal.the-variants.{TooManyBlocks}
+use Rattle.chart.specs.Geometry.{blockOf, setOf}
+use Rattle.chart.specs.Refusals.{placeOf}
+use Rattle.chart.specs.Chart.{Chart, chartIn}
+use Rattle.cache.specs.Plain.{Cache}
+use Rattle.analysis.specs.Class.{classBy}
+use Rattle.demands.specs.Charts.{loopChart, straightChart, oneSetTwoWays, twoSetsTwoWays, fourSetsOneWay}
+use Rattle.demands.specs.Soundings.{Sounding, _reads_, classesFor}
+use Rattle.demands.specs.Tabled.{endless, stopped}
+
+abbrev pub shape : ℕ → ℕ → ℕ → Geometry
+shape line sets ways = record { line = line; sets = sets; ways = ways }
+
+abbrev pub corners : List Sounding
+corners =
+    -- lines of 4, 16 and 256 bytes; 1, 8 and 256 sets
+    ((blockOf (shape 2 0 1) 0x113 ∷ blockOf (shape 4 0 1) 0x113 ∷ blockOf (shape 8 0 1) 0x113 ∷ []) reads (68 ∷ 17 ∷ 1 ∷ []))
+    ∷ ((setOf (shape 4 0 1) 0x1FF ∷ setOf (shape 4 3 1) 0x1FF ∷ setOf (shape 4 8 1) 0x1FF ∷ []) reads (0 ∷ 7 ∷ 255 ∷ []))
+    -- four ways: a hit by its must age, whatever the may age; a miss by its may age; else unsure
+    ∷ ((classBy 4 3 0 ∷ classBy 4 3 4 ∷ classBy 4 4 4 ∷ classBy 4 4 3 ∷ []) reads (1 ∷ 1 ∷ 2 ∷ 3 ∷ []))
+    -- a bare step, an unsure reference and a hit; nodes that are not reached
+    ∷ (classesFor loopChart reads (4 ∷ 3 ∷ 1 ∷ []))
+    ∷ (classesFor endless reads (4 ∷ 3 ∷ 0 ∷ []))
+    ∷ (classesFor stopped reads (4 ∷ 0 ∷ 0 ∷ []))
+    -- 0x00, 0x40, 0x00: S 1 and A 2, and the two fields swapped
+    ∷ (classesFor (straightChart twoSetsTwoWays 0x10) reads (3 ∷ 3 ∷ 1 ∷ []))
+    ∷ (classesFor (straightChart fourSetsOneWay 0x10) reads (3 ∷ 2 ∷ 2 ∷ []))
+    -- the place of refusal 10
+    ∷ ((placeOf (TooManyBlocks 65) ∷ []) reads (65 ∷ []))
+    ∷ []
+
+-- A chart with an unknown start, and contents that it allows: block 9, which it does not have, is younger than block 1, which it has.
+abbrev pub unknownStart : Chart
+unknownStart = chartIn (straightChart oneSetTwoWays 0x04)
+
+abbrev pub strangers : Cache
+strangers zero = 9 ∷ 1 ∷ []
+strangers (suc set) = []

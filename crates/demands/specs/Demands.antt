@@ -1,0 +1,39 @@
+-- The three demands, whole, in plain words; the name of the proof stands beside each. `demands` in proofs/Demands.antt is all three.
+--
+-- What the words mean. A *chart* is a program drawn as nodes and arrows, with an *entry* where it starts; a node may make one *reference*
+-- to memory. Memory is cut into *blocks*, and the cache holds a few of them, in sets. A reference *hits* if its block is in the cache, else it
+-- *misses* and costs more. A *walk* begins at the entry, goes along arrows and may stop anywhere; every run of the program is one. The
+-- *plain machine* is the cache as document 01 draws it, a list for each set, which anybody can follow with a pencil; a block's *age* is its
+-- place in its list, and one that is not there counts as the oldest.
+--
+-- A *table* marks the nodes that a walk can come to, and for each of them and each block it has two ages: when a walk comes there, the block
+-- is no older than the one and no younger than the other. From them a reference is called a hit, a miss, or unsure. The *analysis* makes such
+-- a table; the *checker* tries one that anybody made. For each node the caller says how often a walk visits it, no less than a *floor* and no
+-- more than a *ceiling*; the *totals* are what a walk then costs, at least and at most. A caller lends *buffers*, as long as it likes, for
+-- a function to read or to fill. Where a function cannot answer it gives a *refusal*, a number from document 01's list, with the node at fault.
+--
+-- 1. Ask it anything. Whatever bytes come, and however short a lent buffer is, the reader of charts, the analysis, the checker and the totals
+--    give an answer or a refusal. It is written down when each refusal is given, what it returns and what it leaves in the buffers. A caller
+--    checks nothing first.                                                               `demand1` in proofs/Demand1.antt
+--
+-- 2. It says as much as can be said. The checker passes a table exactly if it meets the equations that document 01 sets for ages. Where the
+--    analysis is not refused (and 1 says where it is), its table passes, and no table that passes says more. A tool that called
+--    everything unsure would break this demand.                                          `demand2` in proofs/Demand2.antt
+--
+-- 3. What it says is so. Take any table that the checker passes, whoever made it; any walk; and whatever the cache held before, as far as
+--    the chart allows it. At every step, where a hit was called the plain machine hits, and where a miss was called it misses. And if a
+--    miss costs no less than a hit, and each node has a floor and a ceiling that the walk keeps to, then the totals are given, and what
+--    the plain machine pays on that walk is no less than the low one and no more than the high one.
+--                                                                                        `demand3` in proofs/Demand3.antt
+--
+-- All three speak of the answers of functions, through what these promise: `chart::read` (`reading`), `chart::read_header`
+-- (`headerRead`), `analysis::analyse` (`analysed`), `checker::check` (`checked`) and `totals::total` (`totals`). Each promise is an equation
+-- with the definition of that name, so what is shown of the definition is shown of the function's answer.
+use Rattle.demands.specs.Demand1.{Demand1}
+use Rattle.demands.specs.Demand2.{Demand2}
+use Rattle.demands.specs.Demand3.{Demand3}
+
+pub record Demands : Type 0 where
+  pub asked-anything : Demand1
+  pub says-most : Demand2
+  pub says-so : Demand3

@@ -1,0 +1,153 @@
+-- What the checker and the totals answer for tables that are written out: their refusals, each alone and several at once, yes and no, and
+-- the sums. Document 01, "Ages and equations" ("It passes exactly if"), "Totals" and "When the tool says no".
+use Prim.Native.Nat.{ℕ}
+use mathlib.Core.List.{List, [], _∷_}
+use lib.ListN.{set, take}
+use Rattle.tables.specs.Lent.{Lent}
+use Rattle.analysis.specs.Analysis.{tableIn}
+use Rattle.checker.specs.Checker.{checked, checkedSays}
+use Rattle.totals.specs.Totals.{Prices, totals, totalsSay}
+use Rattle.report.specs.Report.{zeroBuffers}
+use Rattle.demands.specs.Soundings.{Sounding, _reads_, after, loopPrices}
+use Rattle.demands.specs.Charts.{loopChart, straightChart, oneSetTwoWaysEmpty}
+
+-- ---- by the checker: 11, yes and no
+
+-- The number, and yes or no.
+abbrev pub checking : List ℕ → Lent → List ℕ
+checking bytes table = checkedSays (checked bytes table) .number ∷ checkedSays (checked bytes table) .yes ∷ []
+
+-- The tables of the loop chart, and of it without the way out of its loop, whose node 2 is not reached.
+abbrev pub loopTable : Lent
+loopTable = record { must = 2 ∷ 2 ∷ 0 ∷ []; may = 2 ∷ 0 ∷ 0 ∷ []; marks = 1 ∷ 1 ∷ 1 ∷ [] }
+
+abbrev pub endless : List ℕ
+endless = set (set loopChart 20 0x10) 23 0x00
+
+abbrev pub endlessTable : Lent
+endlessTable = record { must = 2 ∷ 2 ∷ 0 ∷ []; may = 2 ∷ 0 ∷ 0 ∷ []; marks = 1 ∷ 1 ∷ 0 ∷ [] }
+
+-- The loop chart's table with so much of each buffer.
+abbrev pub cut : ℕ → ℕ → ℕ → Lent
+cut must may marks =
+    record { must = take must (loopTable .must); may = take may (loopTable .may); marks = take marks (loopTable .marks) }
+
+-- Another must age at node 1: what it has after its own record, where the start's is above.
+abbrev pub younger : Lent
+younger = record { must = set (loopTable .must) 1 0; may = loopTable .may; marks = loopTable .marks }
+
+-- The checker's number, yes or no: 11, and tables near the analysis's own.
+abbrev pub unchecked : List Sounding
+unchecked =
+    -- the tables are those that the analysis leaves, and they pass
+    (after loopChart .must reads (2 ∷ 2 ∷ 0 ∷ 0 ∷ 0 ∷ 0 ∷ []))
+    ∷ (after loopChart .may reads (2 ∷ 0 ∷ 0 ∷ 0 ∷ 0 ∷ 0 ∷ []))
+    ∷ (after loopChart .marks reads (1 ∷ 1 ∷ 1 ∷ []))
+    ∷ (after endless .must reads (2 ∷ 2 ∷ 0 ∷ 0 ∷ 0 ∷ 0 ∷ []))
+    ∷ (after endless .may reads (2 ∷ 0 ∷ 0 ∷ 0 ∷ 0 ∷ 0 ∷ []))
+    ∷ (after endless .marks reads (1 ∷ 1 ∷ 0 ∷ []))
+    ∷ (checking loopChart loopTable reads (0 ∷ 1 ∷ []))
+    ∷ (checking endless endlessTable reads (0 ∷ 1 ∷ []))
+    -- each buffer short alone; another age; a table of zeros
+    ∷ (checking loopChart (cut 2 3 3) reads (11 ∷ 0 ∷ []))
+    ∷ (checking loopChart (cut 3 2 3) reads (11 ∷ 0 ∷ []))
+    ∷ (checking loopChart (cut 3 3 2) reads (11 ∷ 0 ∷ []))
+    ∷ (checking loopChart younger reads (0 ∷ 0 ∷ []))
+    ∷ (checking loopChart (tableIn (zeroBuffers 3 1)) reads (0 ∷ 0 ∷ []))
+    ∷ []
+
+-- A table of three nodes and one block.
+abbrev pub three : List ℕ → List ℕ → List ℕ → Lent
+three must may marks = record { must = must; may = may; marks = marks }
+
+-- The same of tables that are as loose as can be but for one place.
+abbrev pub looser : List Sounding
+looser =
+    -- the loosest table passes, also with something behind it
+    (checking loopChart (three (2 ∷ 2 ∷ 2 ∷ []) (0 ∷ 0 ∷ 0 ∷ []) (1 ∷ 1 ∷ 1 ∷ [])) reads (0 ∷ 1 ∷ []))
+    ∷ (checking loopChart (three (2 ∷ 2 ∷ 2 ∷ 9 ∷ []) (0 ∷ 0 ∷ 0 ∷ 9 ∷ []) (1 ∷ 1 ∷ 1 ∷ 9 ∷ [])) reads (0 ∷ 1 ∷ []))
+    -- a mark of 2; an age above A; a must age below the start's; one below what an arrow brings; a may age above it
+    ∷ (checking loopChart (three (2 ∷ 2 ∷ 2 ∷ []) (0 ∷ 0 ∷ 0 ∷ []) (1 ∷ 2 ∷ 1 ∷ [])) reads (0 ∷ 0 ∷ []))
+    ∷ (checking loopChart (three (2 ∷ 2 ∷ 3 ∷ []) (0 ∷ 0 ∷ 0 ∷ []) (1 ∷ 1 ∷ 1 ∷ [])) reads (0 ∷ 0 ∷ []))
+    ∷ (checking loopChart (three (1 ∷ 2 ∷ 2 ∷ []) (0 ∷ 0 ∷ 0 ∷ []) (1 ∷ 1 ∷ 1 ∷ [])) reads (0 ∷ 0 ∷ []))
+    ∷ (checking loopChart (three (2 ∷ 1 ∷ 2 ∷ []) (0 ∷ 0 ∷ 0 ∷ []) (1 ∷ 1 ∷ 1 ∷ [])) reads (0 ∷ 0 ∷ []))
+    ∷ (checking loopChart (three (2 ∷ 2 ∷ 2 ∷ []) (0 ∷ 0 ∷ 1 ∷ []) (1 ∷ 1 ∷ 1 ∷ [])) reads (0 ∷ 0 ∷ []))
+    -- the target of an arrow unmarked; the entry unmarked; an unmarked row that is not 0
+    ∷ (checking loopChart (three (2 ∷ 2 ∷ 0 ∷ []) (0 ∷ 0 ∷ 0 ∷ []) (1 ∷ 1 ∷ 0 ∷ [])) reads (0 ∷ 0 ∷ []))
+    ∷ (checking loopChart (three (0 ∷ 2 ∷ 2 ∷ []) (0 ∷ 0 ∷ 0 ∷ []) (0 ∷ 1 ∷ 1 ∷ [])) reads (0 ∷ 0 ∷ []))
+    ∷ (checking endless (three (2 ∷ 2 ∷ 1 ∷ []) (0 ∷ 0 ∷ 0 ∷ []) (1 ∷ 1 ∷ 0 ∷ [])) reads (0 ∷ 0 ∷ []))
+    ∷ []
+
+-- ---- by the totals: 11 and 13 to 17, and the sums
+
+-- The number, the place, and the two totals.
+abbrev pub totalling : List ℕ → Lent → Prices → List ℕ
+totalling bytes table prices =
+    totalsSay (totals bytes table prices) .number
+    ∷ totalsSay (totals bytes table prices) .place
+    ∷ totalsSay (totals bytes table prices) .low
+    ∷ totalsSay (totals bytes table prices) .high
+    ∷ []
+
+abbrev pub priced : ℕ → ℕ → List ℕ → List ℕ → Prices
+priced hitCost missCost floors ceilings =
+    record { hitCost = hitCost; missCost = missCost; floors = floors; ceilings = ceilings }
+
+-- What the totals say of the loop chart: each refusal on one side of its mark and on the other, and several at once.
+abbrev pub untotalled : List Sounding
+untotalled =
+    (totalling loopChart loopTable loopPrices reads (0 ∷ 0 ∷ 2 ∷ 101 ∷ []))
+    -- 11: each buffer short alone; 13: a table that the checker fails
+    ∷ (totalling loopChart (cut 2 3 3) loopPrices reads (11 ∷ 0 ∷ 0 ∷ 0 ∷ []))
+    ∷ (totalling loopChart (cut 3 2 3) loopPrices reads (11 ∷ 0 ∷ 0 ∷ 0 ∷ []))
+    ∷ (totalling loopChart (cut 3 3 2) loopPrices reads (11 ∷ 0 ∷ 0 ∷ 0 ∷ []))
+    ∷ (totalling loopChart younger loopPrices reads (13 ∷ 0 ∷ 0 ∷ 0 ∷ []))
+    -- 14: a floor or a ceiling too few, or too many
+    ∷ (totalling loopChart loopTable (priced 1 10 (1 ∷ 1 ∷ []) (1 ∷ 10 ∷ 1 ∷ [])) reads (14 ∷ 0 ∷ 0 ∷ 0 ∷ []))
+    ∷ (totalling loopChart loopTable (priced 1 10 (1 ∷ 1 ∷ 1 ∷ 0 ∷ []) (1 ∷ 10 ∷ 1 ∷ [])) reads (14 ∷ 0 ∷ 0 ∷ 0 ∷ []))
+    ∷ (totalling loopChart loopTable (priced 1 10 (1 ∷ 1 ∷ 1 ∷ []) (1 ∷ 10 ∷ [])) reads (14 ∷ 0 ∷ 0 ∷ 0 ∷ []))
+    ∷ (totalling loopChart loopTable (priced 1 10 (1 ∷ 1 ∷ 1 ∷ []) (1 ∷ 10 ∷ 1 ∷ 1 ∷ [])) reads (14 ∷ 0 ∷ 0 ∷ 0 ∷ []))
+    -- 15: a miss below a hit; the same costs are no fault
+    ∷ (totalling loopChart loopTable (priced 11 10 (1 ∷ 1 ∷ 1 ∷ []) (1 ∷ 10 ∷ 1 ∷ [])) reads (15 ∷ 0 ∷ 0 ∷ 0 ∷ []))
+    ∷ (totalling loopChart loopTable (priced 2 2 (1 ∷ 1 ∷ 1 ∷ []) (1 ∷ 10 ∷ 1 ∷ [])) reads (0 ∷ 0 ∷ 4 ∷ 22 ∷ []))
+    -- 16: floor 2, ceiling 1 at node 2; at nodes 1 and 2, the first is told; a floor at its ceiling is no fault
+    ∷ (totalling loopChart loopTable (priced 1 10 (1 ∷ 1 ∷ 2 ∷ []) (1 ∷ 10 ∷ 1 ∷ [])) reads (16 ∷ 2 ∷ 0 ∷ 0 ∷ []))
+    ∷ (totalling loopChart loopTable (priced 1 10 (1 ∷ 11 ∷ 2 ∷ []) (1 ∷ 10 ∷ 1 ∷ [])) reads (16 ∷ 1 ∷ 0 ∷ 0 ∷ []))
+    ∷ (totalling loopChart loopTable (priced 1 10 (1 ∷ 10 ∷ 1 ∷ []) (1 ∷ 10 ∷ 1 ∷ [])) reads (0 ∷ 0 ∷ 11 ∷ 101 ∷ []))
+    -- 17: floor 1 at node 2, which is not marked; floor 0 there is no fault, and its ceiling adds nothing
+    ∷ (totalling endless endlessTable loopPrices reads (17 ∷ 2 ∷ 0 ∷ 0 ∷ []))
+    ∷ (totalling endless endlessTable (priced 1 10 (1 ∷ 1 ∷ 0 ∷ []) (1 ∷ 10 ∷ 1 ∷ [])) reads (0 ∷ 0 ∷ 1 ∷ 100 ∷ []))
+    -- several at once, the first in the table's order: 13 to 16, then 14 to 16, 15 and 16, 16 and 17
+    ∷ (totalling loopChart younger (priced 2 1 (9 ∷ []) (1 ∷ [])) reads (13 ∷ 0 ∷ 0 ∷ 0 ∷ []))
+    ∷ (totalling loopChart loopTable (priced 2 1 (9 ∷ []) (1 ∷ [])) reads (14 ∷ 0 ∷ 0 ∷ 0 ∷ []))
+    ∷ (totalling loopChart loopTable (priced 2 1 (9 ∷ 1 ∷ 1 ∷ []) (1 ∷ 1 ∷ 1 ∷ [])) reads (15 ∷ 0 ∷ 0 ∷ 0 ∷ []))
+    ∷ (totalling endless endlessTable (priced 1 10 (1 ∷ 1 ∷ 2 ∷ []) (1 ∷ 10 ∷ 1 ∷ [])) reads (16 ∷ 2 ∷ 0 ∷ 0 ∷ []))
+    ∷ []
+
+-- The loop chart whose entry has no arrow: nodes 1 and 2 are not reached.
+abbrev pub stopped : List ℕ
+stopped = set (set loopChart 12 0x00) 13 0x00
+
+abbrev pub stoppedTable : Lent
+stoppedTable = three (2 ∷ 0 ∷ 0 ∷ []) (2 ∷ 0 ∷ 0 ∷ []) (1 ∷ 0 ∷ 0 ∷ [])
+
+-- "0x00, 0x10, 0x00, one set, two ways", empty: classes 2 2 1.
+abbrev pub missesChart : List ℕ
+missesChart = straightChart oneSetTwoWaysEmpty 0x04
+
+abbrev pub missesTable : Lent
+missesTable = record { must = 2 ∷ 2 ∷ 0 ∷ 2 ∷ 1 ∷ 0 ∷ []; may = 2 ∷ 2 ∷ 0 ∷ 2 ∷ 1 ∷ 0 ∷ []; marks = 1 ∷ 1 ∷ 1 ∷ [] }
+
+-- What they say of other charts, tables and costs.
+abbrev pub summed : List Sounding
+summed =
+    -- misses and a hit, a hit cost above 1, a table that is looser, one with something behind it
+    (totalling missesChart missesTable (priced 3 10 (1 ∷ 1 ∷ 1 ∷ []) (2 ∷ 2 ∷ 2 ∷ [])) reads (0 ∷ 0 ∷ 23 ∷ 46 ∷ []))
+    ∷ (totalling loopChart loopTable (priced 3 10 (1 ∷ 1 ∷ 1 ∷ []) (1 ∷ 10 ∷ 1 ∷ [])) reads (0 ∷ 0 ∷ 6 ∷ 103 ∷ []))
+    ∷ (totalling loopChart (three (2 ∷ 2 ∷ 2 ∷ []) (0 ∷ 0 ∷ 0 ∷ []) (1 ∷ 1 ∷ 1 ∷ [])) loopPrices reads (0 ∷ 0 ∷ 2 ∷ 110 ∷ []))
+    ∷ (totalling loopChart (three (2 ∷ 2 ∷ 0 ∷ 9 ∷ []) (2 ∷ 0 ∷ 0 ∷ 9 ∷ []) (1 ∷ 1 ∷ 1 ∷ 9 ∷ [])) loopPrices reads (0 ∷ 0 ∷ 2 ∷ 101 ∷ []))
+    -- 17 at the first of two unmarked nodes; at the second, where the first has no floor; and what is not reached adds nothing
+    ∷ (totalling stopped stoppedTable loopPrices reads (17 ∷ 1 ∷ 0 ∷ 0 ∷ []))
+    ∷ (totalling stopped stoppedTable (priced 1 10 (1 ∷ 0 ∷ 1 ∷ []) (1 ∷ 10 ∷ 1 ∷ [])) reads (17 ∷ 2 ∷ 0 ∷ 0 ∷ []))
+    ∷ (totalling stopped stoppedTable (priced 1 10 (1 ∷ 0 ∷ 0 ∷ []) (1 ∷ 10 ∷ 5 ∷ [])) reads (0 ∷ 0 ∷ 0 ∷ 0 ∷ []))
+    ∷ []

@@ -1,0 +1,69 @@
+-- What a machine pays along a walk lies between what each visit is said to cost at least and at most, times its visits.
+use mathlib.Core.Bool.{cond}
+use mathlib.Core.List.{List, [], _∷_}
+use mathlib.Core.Path.{_≡_, sym, _∙_}
+use Prim.Native.Nat.{ℕ, _+_, _*_, _≤_, _<_, zero-le}
+use native.Mathlib.Nat.{add-le-add, add-mul, zero-mul, mul-le-mul-right}
+use native.Mathlib.Omega.{arith}
+use lib.Dec.{eqb}
+use Rattle.lists.specs.Lists.{sumOf}
+use Rattle.lists.proofs.Sums.{sum-both, sum-equal, sum-most, sum-pick, sum-monotone}
+use Rattle.flow.specs.Walk.{visitsOf, inTurn, Machine, paidAt, paid, AtNodes}
+
+-- The sum over the nodes of a walk, one after the other.
+abbrev along : (ℕ → ℕ) → List ℕ → ℕ
+along cost [] = 0
+along cost (n ∷ ns) = cost n + along cost ns
+
+-- ---- the machine's cost, node by node
+
+module _ {E : Type 0} (M : Machine E) (hit miss : ℕ) (touches : ℕ → List E) (P : ℕ → M .Contents → Type 0) (cost : ℕ → ℕ) where
+  paid-least : ((n : ℕ) (c : M .Contents) → P n c → cost n ≤ paidAt M hit miss (touches n) c)
+      → (n : ℕ) (ts : List ℕ) (c : M .Contents) → AtNodes M P touches n ts c → along cost (n ∷ ts) ≤ paid M hit miss touches n ts c
+  paid-least each n [] c p = omega (arith, each n c p)
+  paid-least each n (t ∷ ts) c p =
+      add-le-add (each n c (p .0)) (paid-least each t ts (inTurn (M .act) (touches n) c) (p .1))
+
+  paid-most : ((n : ℕ) (c : M .Contents) → P n c → paidAt M hit miss (touches n) c ≤ cost n)
+      → (n : ℕ) (ts : List ℕ) (c : M .Contents) → AtNodes M P touches n ts c → paid M hit miss touches n ts c ≤ along cost (n ∷ ts)
+  paid-most each n [] c p = omega (arith, each n c p)
+  paid-most each n (t ∷ ts) c p =
+      add-le-add (each n c (p .0)) (paid-most each t ts (inTurn (M .act) (touches n) c) (p .1))
+
+-- ---- each node times its visits
+
+abbrev AllBelow : ℕ → List ℕ → Type 0
+AllBelow nodes [] = Unit {0}
+AllBelow nodes (n ∷ ns) = (n < nodes) × AllBelow nodes ns
+
+along-visits : (nodes : ℕ) (cost : ℕ → ℕ) (ns : List ℕ) → AllBelow nodes ns → along cost ns ≡ sumOf nodes (λ n. visitsOf n ns * cost n)
+along-visits nodes cost [] inside = sym (sum-equal nodes (λ n. 0 * cost n) (λ n. 0) (λ n h. zero-mul (cost n)) ∙ (omega (arith, sum-most nodes 0 (λ n. 0) (λ n h. zero-le))))
+along-visits nodes cost (k ∷ ns) inside =
+    let rest = along-visits nodes cost ns (inside .1) in
+    let here = sum-pick nodes k cost (inside .0) in
+    let both = sum-both nodes (λ n. cond (eqb k n) 1 0 * cost n) (λ n. visitsOf n ns * cost n) in
+    let shared = sum-equal nodes (λ n. (cond (eqb k n) 1 0 + visitsOf n ns) * cost n) (λ n. cond (eqb k n) 1 0 * cost n + visitsOf n ns * cost n) (λ n h. add-mul (cond (eqb k n) 1 0) (visitsOf n ns) (cost n)) in
+    omega arith
+
+-- ---- visits between floors and ceilings
+
+module _ {E : Type 0} (M : Machine E) (hit miss : ℕ) (touches : ℕ → List E) (P : ℕ → M .Contents → Type 0) (cost : ℕ → ℕ)
+    (nodes : ℕ) (inside : (n : ℕ) (c : M .Contents) → P n c → n < nodes) where
+  walk-below : (n : ℕ) (ts : List ℕ) (c : M .Contents) → AtNodes M P touches n ts c → AllBelow nodes (n ∷ ts)
+  walk-below n [] c p = (inside n c p, tt)
+  walk-below n (t ∷ ts) c p = (inside n c (p .0), walk-below t ts (inTurn (M .act) (touches n) c) (p .1))
+
+  module _ (n : ℕ) (ts : List ℕ) (c : M .Contents) (at : AtNodes M P touches n ts c) (bound : ℕ → ℕ) where
+    -- Floors times what each visit costs at least: no more than what is paid.
+    pub floors-below : ((k : ℕ) (x : M .Contents) → P k x → cost k ≤ paidAt M hit miss (touches k) x)
+        → ((k : ℕ) → k < nodes → bound k ≤ visitsOf k (n ∷ ts))
+        → sumOf nodes (λ k. bound k * cost k) ≤ paid M hit miss touches n ts c
+    floors-below each no-less =
+        omega (arith, sum-monotone nodes (λ k. bound k * cost k) (λ k. visitsOf k (n ∷ ts) * cost k) (λ k h. mul-le-mul-right (cost k) (no-less k h)), along-visits nodes cost (n ∷ ts) (walk-below n ts c at), paid-least M hit miss touches P cost each n ts c at)
+
+    -- Ceilings times what each visit costs at most: no less than what is paid.
+    pub ceilings-above : ((k : ℕ) (x : M .Contents) → P k x → paidAt M hit miss (touches k) x ≤ cost k)
+        → ((k : ℕ) → k < nodes → visitsOf k (n ∷ ts) ≤ bound k)
+        → paid M hit miss touches n ts c ≤ sumOf nodes (λ k. bound k * cost k)
+    ceilings-above each no-more =
+        omega (arith, sum-monotone nodes (λ k. visitsOf k (n ∷ ts) * cost k) (λ k. bound k * cost k) (λ k h. mul-le-mul-right (cost k) (no-more k h)), along-visits nodes cost (n ∷ ts) (walk-below n ts c at), paid-most M hit miss touches P cost each n ts c at)

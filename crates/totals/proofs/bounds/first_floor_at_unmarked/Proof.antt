@@ -1,0 +1,71 @@
+use borrow.Author.Needs.{needs}
+use mathlib.Core.Path.{_≡_, sym, _∙_}
+use Prim.Native.Nat.{_≤_, _-_}
+use native.Mathlib.Omega.{arith}
+use denote.Ref.{now}
+use Rattle.lists.specs.Choice.{first, firstFrom}
+use Rattle.lists.proofs.Choice.{first-begins, first-passes, first-found, first-ends}
+use Rattle.totals.specs.Inner.{floorAtUnmarked}
+use Rattle.totals.proofs.bounds.first_floor_at_unmarked.Statement.{statement}
+use Rattle.totals.proofs.bounds.first_floor_at_unmarked.Tie as tie
+
+abbrev Inv-loop : tie.InvT-loop
+Inv-loop marks floors nodes n₀ n = (n ≤ nodes) × (first nodes (floorAtUnmarked marks floors) ≡ firstFrom n (nodes - n) (floorAtUnmarked marks floors))
+
+abbrev μ-loop : tie.MeasureT-loop
+μ-loop marks floors nodes n₀ n = nodes - n
+
+loop-holds : tie.Need-loop-holds Inv-loop μ-loop
+loop-holds c =
+    let a = c .args in
+    (search needs, first-begins (a .nodes) (floorAtUnmarked (now (a .marks)) (now (a .floors))))
+
+shared-slice-read-marked : tie.Need-shared-slice-read-marked Inv-loop μ-loop
+shared-slice-read-marked c = search needs
+
+mul-bound : tie.Need-mul-bound Inv-loop μ-loop
+mul-bound c = search needs
+
+shared-slice-read-bound : tie.Need-shared-slice-read-bound Inv-loop μ-loop
+shared-slice-read-bound c = search needs
+
+returns : tie.Need-returns Inv-loop μ-loop
+returns c =
+    let a = c .before .before .before .before .before .args in
+    let l = c .before .before .before .before .loop in
+    sym (first-found (a .nodes) (l .n) (floorAtUnmarked (now (a .marks)) (now (a .floors))) (c .before .before .before .loop-test .taken) (c .if1 .taken) (l .inv .1))
+
+add-n : tie.Need-add-n Inv-loop μ-loop
+add-n c = search needs
+
+loop-less : tie.Need-loop-less Inv-loop μ-loop
+loop-less c = search needs
+
+loop-again : tie.Need-loop-again Inv-loop μ-loop
+loop-again c =
+    let a = c .before .before .before .before .before .args in
+    let l = c .before .before .before .before .loop in
+    (search needs, first-passes (a .nodes) (l .n) (floorAtUnmarked (now (a .marks)) (now (a .floors))) (c .before .before .before .loop-test .taken) (c .if1 .left) (l .inv .1))
+
+returns-2 : tie.Need-returns-2 Inv-loop μ-loop
+returns-2 c =
+    let a = c .before .before .args in
+    let l = c .before .loop in
+    let e : l .n ≡ a .nodes = omega arith in
+    sym (first-ends (a .nodes) (l .n) (floorAtUnmarked (now (a .marks)) (now (a .floors))) (c .loop-test .left) (l .inv .1) ∙ e)
+
+pub first-floor-at-unmarked-spec : {M : Type 1} → statement M
+first-floor-at-unmarked-spec =
+    tie.close
+    (tie.spec
+    Inv-loop
+    μ-loop
+    loop-holds
+    shared-slice-read-marked
+    mul-bound
+    shared-slice-read-bound
+    returns
+    add-n
+    loop-less
+    loop-again
+    returns-2)

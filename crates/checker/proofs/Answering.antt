@@ -15,13 +15,13 @@ use Rattle.chart.specs.Chart.{Chart, chartIn, nodeAt}
 use Rattle.chart.specs.Inner.{Found}
 use Rattle.tables.specs.Lent.{Lent, tableShort}
 use Rattle.tables.specs.Inner.{Roomy}
-use Rattle.tables.proofs.Laid.{long-enough}
 use Rattle.tables.proofs.Used.{usedPart, part-same}
 use Rattle.passes.specs.Plan.{Ready, columnBy}
 use Rattle.passes.proofs.Planning.{planned}
 use Rattle.passes.proofs.Planning.{found-shape, found-planned}
 use Rattle.checker.specs.declared.Checked.the-variants.{Passes, Fails, Refused}
 use Rattle.checker.specs.Checker.{passes, checked}
+use Rattle.checker.proofs.Answers.{found-roomy}
 use Rattle.checker.proofs.Used.{passes-used}
 
 module _ {bytes : List ℕ} {header : Header} {count : ℕ} {array : List ℕ} (found : Found bytes header count array) where
@@ -57,9 +57,7 @@ module _ {bytes : List ℕ} {header : Header} {count : ℕ} {array : List ℕ} (
 
     module _ (e : short ≡ false) where
       pub roomy : Roomy (header .nodes) count (lent .must) (lent .may) (lent .marks)
-      roomy =
-          let long = long-enough chart lent (sym short-is ∙ e) in
-          rw (found .header-is, found .count-is) (record { must-room = long .0; may-room = long .1 .0; marks-room = long .1 .1 })
+      roomy = found-roomy found lent (sym short-is ∙ e)
 
       -- The used parts, which are handed on, have the same room and pass or fail as the whole.
       abbrev part : Lent

@@ -5,22 +5,19 @@ use mathlib.Core.List.{List}
 use mathlib.Core.Logic.{_⊎_, inl, inr}
 use mathlib.Core.Path.{_≡_, refl, sym, ap, _∙_}
 use native.Mathlib.Omega.{arith}
-use Rattle.chart.specs.declared.refusals.Refusal.the-variants.{ShortBuffer}
 use Rattle.chart.specs.Chart.{Chart, accepted, readChart}
 use Rattle.chart.proofs.Accepted.{accepted-entry}
 use Rattle.tables.specs.Lent.{Lent, tableShort, TablePasses, SameUsed}
 use Rattle.tables.proofs.Stepping.{arrow-inside}
 use Rattle.checker.specs.declared.Checked.{Checked}
-use Rattle.checker.specs.declared.Checked.the-variants.{Passes, Fails, Refused}
+use Rattle.checker.specs.declared.Checked.the-variants.{Passes, Fails}
 use Rattle.checker.specs.Checker.{passes, checked, checkedSays}
+use Rattle.checker.proofs.Answers.{answerOf, checked-accepted}
 use Rattle.checker.proofs.Deciding.{passes-yes, yes-long, yes-passes}
 use Rattle.checker.proofs.Used.{passes-used}
 use Rattle.demands.specs.Demand1.{CheckerRefusals}
 
 -- ---- what it answers
-
-abbrev pub answerOf : Bool → Bool → Checked
-answerOf short passing = cond short (Refused ShortBuffer) (cond passing Passes Fails)
 
 says-yes : (short passing : Bool) → checkedSays (answerOf short passing) .yes ≡ 1 → (short ≡ false) × (passing ≡ true)
 says-yes true passing e = absurd (omega arith)
@@ -28,15 +25,11 @@ says-yes false true e = (refl, refl)
 says-yes false false e = absurd (omega arith)
 
 module _ (bytes : List ℕ) (chart : Chart) (table : Lent) (read : readChart bytes ≡ accepted chart) where
-  pub checked-accepted : checked bytes table ≡ answerOf (tableShort chart table) (passes chart table)
-  unfolding checked
-  checked-accepted = rw read
-
   pub checker : CheckerRefusals bytes chart table
   checker =
       record {
-        short = λ e. checked-accepted ∙ (rw e);
-        answers = λ e. answers (passes chart table) (checked-accepted ∙ (rw e));
+        short = λ e. checked-accepted bytes chart table read ∙ (rw e);
+        answers = λ e. answers (passes chart table) (checked-accepted bytes chart table read ∙ (rw e));
       }
     where
       answers : (passing : Bool) → checked bytes table ≡ cond passing Passes Fails → (checked bytes table ≡ Passes) ⊎ (checked bytes table ≡ Fails)
@@ -45,11 +38,11 @@ module _ (bytes : List ℕ) (chart : Chart) (table : Lent) (read : readChart byt
 
   pub checker-yes : checkedSays (checked bytes table) .yes ≡ 1 → TablePasses chart table
   checker-yes e =
-      let both = says-yes (tableShort chart table) (passes chart table) (ap (λ (c : Checked). checkedSays c .yes) (sym checked-accepted) ∙ e) in
+      let both = says-yes (tableShort chart table) (passes chart table) (ap (λ (c : Checked). checkedSays c .yes) (sym (checked-accepted bytes chart table read)) ∙ e) in
       passes-yes chart table (accepted-entry bytes chart read) (arrow-inside bytes chart read) (both .0) (both .1)
 
   passes-checked : TablePasses chart table → checked bytes table ≡ Passes
-  passes-checked p = checked-accepted ∙ (rw (yes-long chart table p, yes-passes chart table p))
+  passes-checked p = checked-accepted bytes chart table read ∙ (rw (yes-long chart table p, yes-passes chart table p))
 
   pub yes-checker : TablePasses chart table → checkedSays (checked bytes table) .yes ≡ 1
   yes-checker p =

@@ -26,6 +26,7 @@ use Rattle.tables.proofs.Used.{used-mark, used-table}
 use Rattle.checker.specs.declared.Checked.{Checked}
 use Rattle.checker.specs.declared.Checked.the-variants as checker
 use Rattle.checker.specs.Checker.{passes, checked, marked}
+use Rattle.checker.proofs.Answers.{answerOf, checked-accepted, short-only, fails-only}
 use Rattle.checker.proofs.Deciding.{passes-yes, yes-long, yes-passes}
 use Rattle.checker.proofs.Used.{passes-used}
 use Rattle.totals.specs.declared.Totals.{Totals}
@@ -33,7 +34,6 @@ use Rattle.totals.specs.declared.Totals.the-variants.{Between, Refused}
 use Rattle.totals.specs.Totals.{Prices, lowRate, highRate, visitCost, totalOf, firstCrossed, firstFloorAtUnmarked, totalRules, lowTotal, highTotal, totalRead, totals, totalsSay}
 use Rattle.demands.specs.Demand1.{TotalsRefusals, Summable}
 use Rattle.demands.proofs.Refusals.{reading-refusals}
-use Rattle.demands.proofs.Checking.{answerOf, checked-accepted}
 
 module _ (bytes : List ℕ) (chart : Chart) (table : Lent) (prices : Prices) (read : readChart bytes ≡ accepted chart) where
   abbrev sums : Totals
@@ -57,20 +57,12 @@ module _ (bytes : List ℕ) (chart : Chart) (table : Lent) (prices : Prices) (re
   checked-rules answer e = sym (checked-accepted bytes chart table read) ∙ e
 
   short-first : checked bytes table ≡ checker.Refused ShortBuffer → FirstApplies (totalRules chart table prices) ShortBuffer
-  short-first e = go (tableShort chart table) (passes chart table) refl (checked-rules (checker.Refused ShortBuffer) e)
-    where
-      go : (short passing : Bool) → tableShort chart table ≡ short → answerOf short passing ≡ checker.Refused ShortBuffer → FirstApplies (totalRules chart table prices) ShortBuffer
-      go true passing q d = inl (q, refl)
-      go false true q d = let z : _≡_ {A = ℕ} 0 1 = cc in absurd (omega arith)
-      go false false q d = let z : _≡_ {A = ℕ} 0 1 = cc in absurd (omega arith)
+  short-first e = inl (short-only ShortBuffer (tableShort chart table) (passes chart table) (checked-rules (checker.Refused ShortBuffer) e) .0, refl)
 
   fails-first : checked bytes table ≡ checker.Fails → FirstApplies (totalRules chart table prices) NotPassing
-  fails-first e = go (tableShort chart table) (passes chart table) refl refl (checked-rules checker.Fails e)
-    where
-      go : (short passing : Bool) → tableShort chart table ≡ short → passes chart table ≡ passing → answerOf short passing ≡ checker.Fails → FirstApplies (totalRules chart table prices) NotPassing
-      go true passing q p d = let z : _≡_ {A = ℕ} 0 1 = cc in absurd (omega arith)
-      go false true q p d = let z : _≡_ {A = ℕ} 0 1 = cc in absurd (omega arith)
-      go false false q p d = inr (q, inl (ap not p, refl))
+  fails-first e =
+      let both = fails-only (tableShort chart table) (passes chart table) (checked-rules checker.Fails e) in
+      inr (both .0, inl (ap not (both .1), refl))
 
   -- Where no rule applies, the sums are given for what the rules turned round say, and the other way.
   none-summable : NoneApplies (totalRules chart table prices) → Summable chart table prices

@@ -1,6 +1,6 @@
 -- What the totals answer for any bytes: from the checker's answer, the tests of the bounds and the two sums to `totals`.
 use Prim.Native.Nat.{ℕ, _≤_}
-use mathlib.Core.Bool.{Bool, true, false, cond, _&&_}
+use mathlib.Core.Bool.{Bool, true, false, _&&_}
 use mathlib.Core.List.{List}
 use mathlib.Core.Path.{_≡_, refl, sym, ap, _∙_}
 use native.Mathlib.Omega.{arith}
@@ -13,20 +13,20 @@ use Rattle.lists.proofs.Choice.{and-true}
 use Rattle.lists.proofs.Loops.{length-patch}
 use Rattle.chart.specs.declared.headers.Header.{Header}
 use Rattle.chart.specs.declared.refusals.Refusal.{Refusal}
-use Rattle.chart.specs.declared.refusals.Refusal.the-variants.{ShortBuffer, NotPassing, BoundsLength, Costs, FloorAboveCeiling, FloorAtUnmarked}
+use Rattle.chart.specs.declared.refusals.Refusal.the-variants.{NotPassing, BoundsLength, Costs, FloorAboveCeiling, FloorAtUnmarked}
 use Rattle.chart.specs.Geometry.{mostNodes, mostBlocks, setOf}
 use Rattle.chart.specs.Chart.{Chart, chartIn, nodeAt}
 use Rattle.chart.specs.Inner.{Found}
 use Rattle.chart.proofs.Answers.{found-nodes}
 use Rattle.tables.specs.Lent.{Lent, tableShort}
 use Rattle.tables.specs.Inner.{Roomy}
-use Rattle.tables.proofs.Laid.{long-enough}
 use Rattle.passes.specs.declared.plans.Shape.{Shape}
 use Rattle.passes.specs.Plan.{columnBy, shapeOf}
 use Rattle.passes.proofs.Planning.{found-shape, found-planned}
 use Rattle.checker.specs.declared.Checked.{Checked}
 use Rattle.checker.specs.declared.Checked.the-variants as Checked
 use Rattle.checker.specs.Checker.{passes, checked}
+use Rattle.checker.proofs.Answers.{answerOf, checked-accepted, short-only, fails-only, passes-only, found-roomy}
 use Rattle.totals.specs.declared.Totals.the-variants.{Between, Refused}
 use Rattle.totals.specs.declared.sums.Sums.{Sums}
 use Rattle.totals.specs.Totals.{Prices, lowRate, highRate, lowTotal, highTotal, totals}
@@ -47,37 +47,19 @@ module _ {bytes : List ℕ} {header : Header} {count : ℕ} {array : List ℕ} (
 
   -- ---- what the checker has said
 
-  -- Its answer for an accepted chart.
-  answer-is : checked bytes lent ≡ cond (tableShort chart lent) (Checked.Refused ShortBuffer) (cond (passes chart lent) Checked.Passes Checked.Fails)
-  unfolding checked
-  answer-is = rw (found .read)
-
-  short-only : (refusal : Refusal) (short passing : Bool) → Checked.Refused refusal ≡ cond short (Checked.Refused ShortBuffer) (cond passing Checked.Passes Checked.Fails)
-      → (short ≡ true) × (refusal ≡ ShortBuffer)
-  short-only refusal true passing e = (refl, cc)
-  short-only refusal false true e = let z : _≡_ {A = ℕ} 0 1 = cc in absurd (omega arith)
-  short-only refusal false false e = let z : _≡_ {A = ℕ} 0 1 = cc in absurd (omega arith)
-
-  fails-only : (short passing : Bool) → Checked.Fails ≡ cond short (Checked.Refused ShortBuffer) (cond passing Checked.Passes Checked.Fails) → (short ≡ false) × (passing ≡ false)
-  fails-only true passing e = let z : _≡_ {A = ℕ} 0 1 = cc in absurd (omega arith)
-  fails-only false true e = let z : _≡_ {A = ℕ} 0 1 = cc in absurd (omega arith)
-  fails-only false false e = (refl, refl)
-
-  passes-only : (short passing : Bool) → Checked.Passes ≡ cond short (Checked.Refused ShortBuffer) (cond passing Checked.Passes Checked.Fails) → (short ≡ false) × (passing ≡ true)
-  passes-only true passing e = let z : _≡_ {A = ℕ} 0 1 = cc in absurd (omega arith)
-  passes-only false true e = (refl, refl)
-  passes-only false false e = let z : _≡_ {A = ℕ} 0 1 = cc in absurd (omega arith)
+  answer-is : checked bytes lent ≡ answerOf (tableShort chart lent) (passes chart lent)
+  answer-is = checked-accepted bytes chart lent (found .read)
 
   pub refused-answer : (prices : Prices) (refusal : Refusal) → Checked.Refused refusal ≡ checked bytes lent → Refused refusal ≡ totals bytes lent prices
   unfolding totals
   refused-answer prices refusal e =
-      let short = short-only refusal (tableShort chart lent) (passes chart lent) (e ∙ answer-is) in
+      let short = short-only refusal (tableShort chart lent) (passes chart lent) (sym (e ∙ answer-is)) in
       rw (found .read, short .0, short .1)
 
   pub fails-answer : (prices : Prices) → Checked.Fails ≡ checked bytes lent → Refused NotPassing ≡ totals bytes lent prices
   unfolding totals
   fails-answer prices e =
-      let both = fails-only (tableShort chart lent) (passes chart lent) (e ∙ answer-is) in
+      let both = fails-only (tableShort chart lent) (passes chart lent) (sym (e ∙ answer-is)) in
       rw (found .read, both .0, both .1)
 
   -- ---- a table that passes
@@ -90,12 +72,10 @@ module _ {bytes : List ℕ} {header : Header} {count : ℕ} {array : List ℕ} (
     nodes-are = ap (λ (h : Header). h .nodes) (found .header-is)
 
     both : (tableShort chart lent ≡ false) × (passes chart lent ≡ true)
-    both = passes-only (tableShort chart lent) (passes chart lent) (passing ∙ answer-is)
+    both = passes-only (tableShort chart lent) (passes chart lent) (sym (passing ∙ answer-is))
 
     pub passing-roomy : Roomy nodes count (lent .must) (lent .may) (lent .marks)
-    passing-roomy =
-        let long = long-enough chart lent (both .0) in
-        rw (found .header-is, found .count-is) (record { must-room = long .0; may-room = long .1 .0; marks-room = long .1 .1 })
+    passing-roomy = found-roomy found lent (both .0)
 
     module _ (prices : Prices) where
       -- The tests of rows 14 to 17, as they are made.

@@ -9,7 +9,7 @@ use native.Mathlib.Omega.{arith}
 use lib.Dec.{eqb}
 use lib.ListN.{getD}
 use Rattle.lists.specs.Lists.{sumOf}
-use Rattle.lists.proofs.Sums.{sum-monotone}
+use Rattle.lists.proofs.Sums.{sum-equal}
 use Rattle.chart.specs.declared.records.Record.{Record}
 use Rattle.chart.specs.declared.records.Record.the-variants as Record
 use Rattle.chart.specs.Record.{touchesOf}
@@ -105,9 +105,5 @@ module _ (bytes : List ℕ) (chart : Chart) (read : readChart bytes ≡ accepted
   pub sum-is : (times : List ℕ) → sumOf (chart .header .nodes) (λ n. getD times n 0 * costIn rate (shapeOf chart) works lent n) ≡ totalOf chart lent rate times
   unfolding totalOf
   sum-is times =
-      let here : ℕ → ℕ = λ n. getD times n 0 * costIn rate (shapeOf chart) works lent n in
-      let there : ℕ → ℕ = λ n. getD times n 0 * visitCost chart rate n (cellAt (tableOf chart lent) n) in
-      let same : (n : ℕ) → n < chart .header .nodes → here n ≡ there n = λ n h. ap (λ (x : ℕ). getD times n 0 * x) (cost-is n h) in
-      let up = sum-monotone (chart .header .nodes) here there (λ n h. omega (arith, same n h)) in
-      let down = sum-monotone (chart .header .nodes) there here (λ n h. omega (arith, same n h)) in
-      omega (arith, up, down)
+      sum-equal (chart .header .nodes) (λ n. getD times n 0 * costIn rate (shapeOf chart) works lent n) (λ n. getD times n 0 * visitCost chart rate n (cellAt (tableOf chart lent) n))
+      (λ n h. ap (λ (x : ℕ). getD times n 0 * x) (cost-is n h))

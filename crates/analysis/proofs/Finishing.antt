@@ -14,7 +14,7 @@ use Rattle.lists.proofs.Lists.{getD-padded}
 use Rattle.lists.proofs.Loops.{patch-written}
 use Rattle.chart.specs.Geometry.{mostBlocks}
 use Rattle.chart.specs.Chart.{Chart, accepted, readChart, touches, blockCount}
-use Rattle.chart.specs.declared.refusals.Refusal.the-variants.{Unsettled}
+use Rattle.refusals.specs.declared.Refusal.the-variants.{Unsettled}
 use Rattle.cache.specs.Ages.{Ages, startAges}
 use Rattle.flow.specs.Flow.{Cell, blank, cellAt}
 use Rattle.flow.specs.Flow.{Among}

@@ -7,9 +7,9 @@ use lib.ListN.{length, replicate}
 use lib.Dec.{ltb}
 use Rattle.lists.specs.Choice.{_⇒_, firstRule}
 use Rattle.lists.specs.Lists.{written}
-use Rattle.chart.specs.declared.refusals.Refusal.{Refusal}
-use Rattle.chart.specs.declared.refusals.Refusal.the-variants.{ShortBuffer, Unsettled}
-use Rattle.chart.specs.Refusals.{Said, answerWith, refusalSays}
+use Rattle.refusals.specs.declared.Refusal.{Refusal}
+use Rattle.refusals.specs.declared.Refusal.the-variants.{ShortBuffer, Unsettled}
+use Rattle.refusals.specs.Refusals.{Said, answerWith, refusalSays}
 use Rattle.chart.specs.Chart.{Chart, Read, accepted, refused, readChart, blockCount}
 use Rattle.cache.specs.Ages.{Ages}
 use Rattle.flow.specs.Flow.{Cell}

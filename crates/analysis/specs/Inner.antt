@@ -16,7 +16,7 @@ use Rattle.passes.specs.declared.plans.Shape.{Shape}
 use Rattle.passes.specs.Plan.{workAt}
 use Rattle.passes.specs.declared.settling.Settling.{Settling}
 use Rattle.passes.specs.declared.settling.Settling.the-variants as Settling
-use Rattle.chart.specs.declared.refusals.Refusal.the-variants.{Unsettled}
+use Rattle.refusals.specs.declared.Refusal.the-variants.{Unsettled}
 use Rattle.analysis.specs.declared.Analysed.{Analysed}
 use Rattle.analysis.specs.declared.Analysed.the-variants.{Settled, Refused}
 use Rattle.analysis.specs.Class.{unreached, none, classBy}

@@ -10,17 +10,28 @@ ghost use Rattle.analysis.specs.Inner.{classIn};
 use passes::Shape;
 use rows::Work;
 
+// Document 01's numbers of the classes.
+pub const UNREACHED: u8 = 0;
+
+pub const HIT: u8 = 1;
+
+pub const MISS: u8 = 2;
+
+pub const UNSURE: u8 = 3;
+
+pub const NONE: u8 = 4;
+
 // The class of a reference by its block's must and may age: hit, miss or unsure.
 pub fn class_of(ways: u8, must: u8, may: u8) -> u8
     ensures { λ r. ⌜ r ≡ classBy ways must may ⌝ }
 {
     if must < ways {
-        return 1;
+        return HIT;
     }
     if may == ways {
-        return 2;
+        return MISS;
     }
-    3
+    UNSURE
 }
 
 // The class of node n: unreached where it is not marked, none at a bare step, else that of its reference.
@@ -32,11 +43,11 @@ fn class_at(shape: Shape, works: &[u8], must: &[u8], may: &[u8], marks: &[u8], n
     let blocks = shape.blocks;
     let ways = shape.ways;
     if marks[n] == 0 {
-        return 0;
+        return UNREACHED;
     }
     let work = passes::work_at(works, blocks, n);
     let Work::Reference(column) = work else {
-        return 4;
+        return NONE;
     };
     let place = n * blocks + column;
     class_of(ways, must[place], may[place])

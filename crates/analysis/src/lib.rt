@@ -3,8 +3,10 @@ mod buffers;
 mod classes;
 mod settled;
 
-use chart::Refusal;
+pub use classes::HIT;
+pub use classes::MISS;
 pub use classes::class_of;
+use refusals::Refusal;
 pub use settled::analyse;
 
 // Settled after so many passes over a chart of so many blocks, or a refusal.

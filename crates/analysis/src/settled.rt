@@ -19,10 +19,10 @@ use crate::buffers::start_table;
 use crate::buffers::write_blocks;
 use crate::classes::write_classes;
 use chart::Header;
-use chart::Refusal;
 use chart::Verdict;
 use passes::Settling;
 use passes::Shape;
+use refusals::Refusal;
 
 // What is done when passes have ended: classes after a table that settled, zeros after one that did not.
 fn close_table(

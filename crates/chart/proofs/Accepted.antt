@@ -24,9 +24,8 @@ use Rattle.chart.proofs.Insertion.{asc-gathered}
 use Rattle.chart.proofs.Arrays.{ascending-padded}
 use Rattle.chart.proofs.Placed.{placed-gathered}
 
--- A node's arrows: two at most, and those used lead to nodes.
+-- A node's arrows that are used lead to nodes.
 pub record Leads (nodes : ℕ) (node : Node) : Type 0 where
-  pub outs-few : node .outs ≤ 2
   pub first-in : 0 < node .outs → node .first < nodes
   pub second-in : 1 < node .outs → node .second < nodes
 
@@ -43,7 +42,6 @@ keeps-leads nodes word e =
     let one = and-true (arrowKeeps nodes (ltb 0 (arrowCount word)) (firstArrow word)) _ (outs .1) in
     let two = and-true (arrowKeeps nodes (ltb 1 (arrowCount word)) (secondArrow word)) _ (one .1) in
     record {
-      outs-few = leb-true (arrowCount word) 2 (outs .0);
       first-in = used-in nodes (arrowCount word) 0 (firstArrow word) (one .0);
       second-in = used-in nodes (arrowCount word) 1 (secondArrow word) (two .0);
     }

@@ -10,7 +10,7 @@ use Rattle.lists.proofs.Lists.{length-padded}
 use Rattle.chart.specs.declared.headers.Header.{Header}
 use Rattle.chart.specs.declared.readings.Reading.{Reading}
 use Rattle.chart.specs.declared.readings.Verdict.the-variants as verdict
-use Rattle.chart.specs.declared.refusals.Refusal.{Refusal}
+use Rattle.refusals.specs.declared.Refusal.{Refusal}
 use Rattle.chart.specs.Geometry.{mostNodes, mostBlocks, mostSetBits}
 use Rattle.chart.specs.Chart.{Chart, Read, accepted, refused, readChart, chartIn, blockCount}
 use Rattle.chart.specs.Reading.{readingOf, reading}

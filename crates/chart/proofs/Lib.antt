@@ -8,4 +8,3 @@ pub mod Placed
 pub mod Accepted
 pub mod Nodes
 pub mod Answers
-pub mod Values

@@ -16,8 +16,8 @@ use Rattle.chart.specs.declared.headers.Header.{Header}
 use Rattle.chart.specs.declared.headers.HeaderRead.the-variants as read
 use Rattle.chart.specs.declared.readings.Verdict.the-variants as verdict
 use Rattle.chart.specs.declared.records.Record.{Record}
-use Rattle.chart.specs.declared.refusals.Refusal.{Refusal}
-use Rattle.chart.specs.declared.refusals.Refusal.the-variants.{BrokenRecord, TooManyBlocks}
+use Rattle.refusals.specs.declared.Refusal.{Refusal}
+use Rattle.refusals.specs.declared.Refusal.the-variants.{BrokenRecord, TooManyBlocks}
 use Rattle.chart.specs.declared.shape.Geometry.{Geometry}
 use Rattle.chart.specs.Blocks.{insertAll, gathered, overfull}
 use Rattle.chart.specs.Inner.{Laid}

@@ -10,8 +10,8 @@ use Rattle.chart.specs.declared.headers.Header.{Header}
 use Rattle.chart.specs.declared.records.Node.{Node}
 use Rattle.chart.specs.declared.records.NodeRead.{NodeRead}
 use Rattle.chart.specs.declared.records.NodeRead.the-variants.{Found, Missing}
-use Rattle.chart.specs.declared.refusals.Refusal.{Refusal}
-use Rattle.chart.specs.declared.refusals.Refusal.the-variants.{BrokenRecord, TooManyBlocks}
+use Rattle.refusals.specs.declared.Refusal.{Refusal}
+use Rattle.refusals.specs.declared.Refusal.the-variants.{BrokenRecord, TooManyBlocks}
 use Rattle.chart.specs.Layout.{recordWord, chartLength}
 use Rattle.chart.specs.Geometry.{mostBlocks}
 use Rattle.chart.specs.Header.{headerIn, headerRules}

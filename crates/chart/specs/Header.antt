@@ -12,9 +12,9 @@ use Rattle.chart.specs.declared.headers.Start.the-variants.{Unknown, Emp
 use Rattle.chart.specs.declared.headers.Header.{Header}
 use Rattle.chart.specs.declared.headers.HeaderRead.{HeaderRead}
 use Rattle.chart.specs.declared.headers.HeaderRead.the-variants.{Accepted, Refused}
-use Rattle.chart.specs.declared.refusals.Refusal.{Refusal}
-use Rattle.chart.specs.declared.refusals.Refusal.the-variants.{TooShort, Edition, Shape, StartCode, NodeCount, EntryNode, SpareBits, Length}
-use Rattle.chart.specs.Refusals.{Said, answerWith, refusalSays}
+use Rattle.refusals.specs.declared.Refusal.{Refusal}
+use Rattle.refusals.specs.declared.Refusal.the-variants.{TooShort, Edition, Shape, StartCode, NodeCount, EntryNode, SpareBits, Length}
+use Rattle.refusals.specs.Refusals.{Said, answerWith, refusalSays}
 use Rattle.chart.specs.Layout.{wordAt, chartLength, field, headerWidths}
 use Rattle.chart.specs.Geometry.{mostNodes, between, shapeAllowed}
 

@@ -1,6 +1,5 @@
 pub mod Layout
 pub mod Geometry
-pub mod Refusals
 pub mod Header
 pub mod Record
 pub mod Blocks

@@ -7,7 +7,7 @@ use Rattle.chart.specs.declared.readings.Reading.{Reading}
 use Rattle.chart.specs.declared.readings.Verdict.{Verdict}
 use Rattle.chart.specs.declared.readings.Verdict.the-variants.{Accepted, Refused}
 use Rattle.chart.specs.Geometry.{mostBlocks}
-use Rattle.chart.specs.Refusals.{Said, answerWith, refusalSays}
+use Rattle.refusals.specs.Refusals.{Said, answerWith, refusalSays}
 use Rattle.chart.specs.Chart.{Read, accepted, refused, readChart}
 
 -- The header, the number of blocks and the blocks, zeros after them; after a refusal zeros only.

@@ -21,20 +21,24 @@ pub enum Gathered {
     TooMany(usize),
 }
 
-// The place of a block among the first `count` of an ascending list: the first that is not below it, or `count`.
+// The place of a block among the first `count` of an ascending list: the first that is not below it, or `count`. So many are below it.
+// A block past the last is told at once, since blocks often come in ascending order. Else all are looked at, and counted in a block's
+// width, because that is vector code: it takes less time than to stop at the place.
 pub fn place_in(blocks: &[u32], count: usize, block: u32) -> usize
     requires { ⌜ count ≤ length (now blocks) ⌝ }
     requires { ⌜ Ascending count (now blocks) ⌝ }
     ensures { λ r. ⌜ r ≡ placeIn (take count (now (blocks .entry))) block ⌝ }
 {
-    let mut place = 0;
-    while place < count {
-        if block <= blocks[place] {
-            return place;
+    if 0 < count {
+        if blocks[count - 1] < block {
+            return count;
         }
-        place += 1;
     }
-    place
+    let mut below = 0u32;
+    for i in 0..count {
+        below += (blocks[i] < block) as u32;
+    }
+    below as usize
 }
 
 // Stores `block` at `place`; what stands from there up to `count` moves up by one.

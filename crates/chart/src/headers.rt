@@ -4,10 +4,10 @@ ghost use lib.ListN.{length};
 ghost use Rattle.lists.specs.Choice.{firstRule};
 ghost use Rattle.chart.specs.Geometry.{shapeAllowed};
 ghost use Rattle.chart.specs.Header.{geometryOf, startOf, headerOf, wordRules, headerRead};
-use crate::refusals::Refusal;
 use crate::shape::Geometry;
 use crate::words::bits;
 use crate::words::word_at;
+use refusals::Refusal;
 
 // What the cache holds when a walk begins.
 pub enum Start {

@@ -3,7 +3,6 @@ mod blocks;
 mod headers;
 mod readings;
 mod records;
-mod refusals;
 mod shape;
 mod words;
 
@@ -20,5 +19,4 @@ pub use records::NodeRead;
 pub use records::Record;
 pub use records::Reference;
 pub use records::read_node;
-pub use refusals::Refusal;
 pub use shape::Geometry;

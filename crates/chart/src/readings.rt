@@ -11,8 +11,8 @@ use crate::headers::Header;
 use crate::headers::HeaderRead;
 use crate::headers::read_header;
 use crate::records::first_broken;
-use crate::refusals::Refusal;
 use crate::shape::Geometry;
+use refusals::Refusal;
 
 // A chart with that many blocks, or why it is none.
 pub enum Verdict {

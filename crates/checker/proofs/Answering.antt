@@ -9,7 +9,7 @@ use lib.ListN.{length, getD, take, replicate}
 use lib.Seq.{length-take-le}
 use Rattle.lists.specs.Loops.{patch}
 use Rattle.chart.specs.declared.headers.Header.{Header}
-use Rattle.chart.specs.declared.refusals.Refusal.the-variants.{ShortBuffer}
+use Rattle.refusals.specs.declared.Refusal.the-variants.{ShortBuffer}
 use Rattle.chart.specs.Geometry.{mostNodes, mostBlocks, setOf}
 use Rattle.chart.specs.Chart.{Chart, chartIn, nodeAt}
 use Rattle.chart.specs.Inner.{Found}

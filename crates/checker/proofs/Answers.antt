@@ -5,8 +5,8 @@ use mathlib.Core.List.{List}
 use mathlib.Core.Path.{_≡_, refl}
 use native.Mathlib.Omega.{arith}
 use Rattle.chart.specs.declared.headers.Header.{Header}
-use Rattle.chart.specs.declared.refusals.Refusal.{Refusal}
-use Rattle.chart.specs.declared.refusals.Refusal.the-variants.{ShortBuffer}
+use Rattle.refusals.specs.declared.Refusal.{Refusal}
+use Rattle.refusals.specs.declared.Refusal.the-variants.{ShortBuffer}
 use Rattle.chart.specs.Chart.{Chart, accepted, readChart, chartIn}
 use Rattle.chart.specs.Inner.{Found}
 use Rattle.tables.specs.Lent.{Lent, tableShort}

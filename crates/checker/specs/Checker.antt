@@ -6,8 +6,8 @@ use mathlib.Core.List.{List, [], _∷_}
 use lib.ListN.{getD}
 use lib.Dec.{leb, eqb}
 use Rattle.lists.specs.Choice.{_⇒_, firstRule, every}
-use Rattle.chart.specs.declared.refusals.Refusal.the-variants.{ShortBuffer}
-use Rattle.chart.specs.Refusals.{Said, answerWith, refusalSays}
+use Rattle.refusals.specs.declared.Refusal.the-variants.{ShortBuffer}
+use Rattle.refusals.specs.Refusals.{Said, answerWith, refusalSays}
 use Rattle.chart.specs.Chart.{Chart, Read, accepted, refused, readChart, arrows, blockCount}
 use Rattle.cache.specs.Ages.{Ages, ageOf}
 use Rattle.tables.specs.AgesFlow.{agesFlow, columns}

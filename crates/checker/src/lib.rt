@@ -18,9 +18,9 @@ use crate::fitting::marks_plain;
 use crate::fitting::unmarked_zero;
 use crate::starting::start_row;
 use chart::Header;
-use chart::Refusal;
 use chart::Verdict;
 use passes::Shape;
+use refusals::Refusal;
 
 // Whether a table passes, or a refusal.
 pub enum Checked {

@@ -7,7 +7,7 @@ use native.Mathlib.Omega.{arith}
 use lib.ListN.{length, replicate, length-replicate}
 use Rattle.lists.proofs.Listed.{length-listOf}
 use Rattle.lists.proofs.Joined.{length-written}
-use Rattle.chart.specs.declared.refusals.Refusal.the-variants.{ShortBuffer, Unsettled}
+use Rattle.refusals.specs.declared.Refusal.the-variants.{ShortBuffer, Unsettled}
 use Rattle.chart.specs.Chart.{Chart, Read, accepted, refused, readChart, blockCount}
 use Rattle.cache.specs.Ages.{Ages}
 use Rattle.flow.specs.Flow.{Cell}

@@ -10,7 +10,7 @@ use lib.ListN.{getD, length, drop}
 use Rattle.lists.proofs.Joined.{getD-written}
 use Rattle.lists.proofs.Listed.{length-listOf, getD-listOf}
 use Rattle.chart.specs.Chart.{Chart, accepted, readChart, touches}
-use Rattle.chart.proofs.Values.{numbered}
+use Rattle.refusals.proofs.Values.{numbered}
 use Rattle.cache.specs.Ages.{Ages}
 use Rattle.cache.specs.Plain.{Cache}
 use Rattle.flow.specs.Flow.{Cell, cellAt}

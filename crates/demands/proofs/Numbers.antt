@@ -8,16 +8,16 @@ use borrow.Author.Tests.{leb-true}
 use lib.Dec.{leb}
 use Rattle.lists.specs.Choice.{Rule, FirstApplies}
 use Rattle.lists.proofs.Choice.{applies-first, everyAnswer, answer-passes}
-use Rattle.chart.specs.declared.refusals.Refusal.{Refusal}
-use Rattle.chart.specs.declared.refusals.Refusal.the-variants.{ShortBuffer, Unsettled}
+use Rattle.refusals.specs.declared.Refusal.{Refusal}
+use Rattle.refusals.specs.declared.Refusal.the-variants.{ShortBuffer, Unsettled}
 use Rattle.chart.specs.declared.headers.HeaderRead.{HeaderRead}
 use Rattle.chart.specs.declared.headers.HeaderRead.the-variants.{Accepted, Refused}
 use Rattle.chart.specs.Header.{headerIn, headerRules, headerRead, headerSays}
-use Rattle.chart.specs.Refusals.{Said, numberOf, refusalWith, refusalSays}
+use Rattle.refusals.specs.Refusals.{Said, numberOf, refusalWith, refusalSays}
 use Rattle.chart.specs.Chart.{Chart, Read, accepted, refused, readChart, chartRules}
 use Rattle.chart.specs.declared.readings.Verdict.the-variants.{Refused as ReaderRefused}
 use Rattle.chart.specs.Reading.{readingOf, reading, verdictSays}
-use Rattle.chart.proofs.Values.{unless-unsettled}
+use Rattle.refusals.proofs.Values.{unless-unsettled}
 use Rattle.cache.specs.Ages.{Ages}
 use Rattle.flow.specs.Pass.{Outcome, settled, spent, settle}
 use Rattle.tables.specs.AgesFlow.{agesFlow}

@@ -13,12 +13,12 @@ use lib.ListN.{getD, length}
 use Rattle.lists.specs.Choice.{_⇒_, FirstApplies, NoneApplies, firstRule}
 use Rattle.lists.specs.Lists.{sumOf}
 use Rattle.lists.proofs.Choice.{first-applies, first-otherwise, applies-first, none-applies, first-same, answer-passes, and-true, none-passes, passes-none}
-use Rattle.chart.specs.declared.refusals.Refusal.{Refusal}
-use Rattle.chart.specs.declared.refusals.Refusal.the-variants.{ShortBuffer, NotPassing, BoundsLength, Costs, FloorAboveCeiling, FloorAtUnmarked}
-use Rattle.chart.specs.Refusals.{Said, numberOf, refusalWith, refusalSays}
+use Rattle.refusals.specs.declared.Refusal.{Refusal}
+use Rattle.refusals.specs.declared.Refusal.the-variants.{ShortBuffer, NotPassing, BoundsLength, Costs, FloorAboveCeiling, FloorAtUnmarked}
+use Rattle.refusals.specs.Refusals.{Said, numberOf, refusalWith, refusalSays}
 use Rattle.chart.specs.Chart.{Chart, Read, accepted, refused, readChart, chartRules}
 use Rattle.chart.proofs.Accepted.{accepted-entry}
-use Rattle.chart.proofs.Values.{unless-unsettled}
+use Rattle.refusals.proofs.Values.{unless-unsettled}
 use Rattle.flow.specs.Flow.{cellAt}
 use Rattle.tables.specs.Lent.{Lent, tableShort, SameUsed}
 use Rattle.tables.proofs.Stepping.{arrow-inside}

@@ -3,9 +3,9 @@
 use Prim.Native.Nat.{ℕ, zero, suc}
 use mathlib.Core.List.{List, [], _∷_}
 use Rattle.chart.specs.declared.shape.Geometry.{Geometry}
-use Rattle.chart.specs.declared.refusals.Refusal.the-variants.{TooManyBlocks}
+use Rattle.refusals.specs.declared.Refusal.the-variants.{TooManyBlocks}
 use Rattle.chart.specs.Geometry.{blockOf, setOf}
-use Rattle.chart.specs.Refusals.{placeOf}
+use Rattle.refusals.specs.Refusals.{placeOf}
 use Rattle.chart.specs.Chart.{Chart, chartIn}
 use Rattle.cache.specs.Plain.{Cache}
 use Rattle.analysis.specs.Class.{classBy}

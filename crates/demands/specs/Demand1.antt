@@ -1,4 +1,4 @@
--- Demand 1: "Any bytes and any buffer lengths get an answer or a numbered refusal. What a refusal returns and leaves behind, and when
+-- Demand 1, as those who ordered the tool put it: "Any bytes and any buffer lengths get an answer or a numbered refusal. What a refusal returns and leaves behind, and when
 -- each is given, is written down."
 -- The definitions answer for every input whatever; this is what they say of each refusal of the reader, of the header alone, of the
 -- analysis, of the checker and of the totals. Proved as `demand1` in proofs/Demand1.antt.
@@ -9,15 +9,15 @@ use mathlib.Core.List.{List, [], _∷_}
 use mathlib.Core.Logic.{_⊎_}
 use lib.ListN.{length, replicate, getD}
 use Rattle.lists.specs.Choice.{FirstApplies, Rule, _⇒_}
-use Rattle.chart.specs.declared.refusals.Refusal.{Refusal}
-use Rattle.chart.specs.declared.refusals.Refusal.the-variants.{ShortBuffer, Unsettled, NotPassing}
+use Rattle.refusals.specs.declared.Refusal.{Refusal}
+use Rattle.refusals.specs.declared.Refusal.the-variants.{ShortBuffer, Unsettled, NotPassing}
 use Rattle.chart.specs.declared.headers.HeaderRead.the-variants.{Refused as HeaderRefused}
 use Rattle.chart.specs.declared.readings.Verdict.the-variants.{Refused as ReaderRefused}
 use Rattle.chart.specs.Geometry.{mostBlocks}
 use Rattle.chart.specs.Header.{headerRules, headerRead, headerSays}
 use Rattle.chart.specs.Reading.{reading, verdictSays}
 use Rattle.chart.specs.Chart.{Chart, accepted, refused, readChart, chartRules, blockCount}
-use Rattle.chart.specs.Refusals.{numberOf, refusalWith, refusalSays}
+use Rattle.refusals.specs.Refusals.{numberOf, refusalWith, refusalSays}
 use Rattle.flow.specs.Pass.{pass, afterPasses}
 use Rattle.tables.specs.AgesFlow.{agesFlow}
 use Rattle.tables.specs.Lent.{Lent, tableShort, SameUsed, TablePasses}

@@ -1,4 +1,4 @@
--- Demand 3: "For any table that passes, any walk along arrows from the entry and any starting contents the chart allows, the plain
+-- Demand 3, as those who ordered the tool put it: "For any table that passes, any walk along arrows from the entry and any starting contents the chart allows, the plain
 -- cache run along it hits where a hit was called and misses where a miss was called; and if visits lie between floors and ceilings and
 -- a miss costs at least a hit, the cost that machine counts lies between the two totals."
 -- Proved as `demand3` in proofs/Demand3.antt.

@@ -6,10 +6,10 @@
 -- *plain machine* is the cache as document 01 draws it, a list for each set, which anybody can follow with a pencil; a block's *age* is its
 -- place in its list, and one that is not there counts as the oldest.
 --
--- A *table* marks the nodes that a walk can come to, and for each of them and each block it has two ages: when a walk comes there, the block
--- is no older than the one and no younger than the other. From them a reference is called a hit, a miss, or unsure. The *analysis* makes such
+-- A *table* marks the nodes that a walk can come to, and perhaps more; for each of them and each block it has two ages: when a walk comes
+-- there, the block is no older than the one and no younger than the other. From them a reference is called a hit, a miss, or unsure. The *analysis* makes such
 -- a table; the *checker* tries one that anybody made. For each node the caller says how often a walk visits it, no less than a *floor* and no
--- more than a *ceiling*; the *totals* are what a walk then costs, at least and at most. A caller lends *buffers*, as long as it likes, for
+-- more than a *ceiling*; what a walk then costs lies between the two *totals*. A caller lends *buffers*, as long as it likes, for
 -- a function to read or to fill. Where a function cannot answer it gives a *refusal*, a number from document 01's list, with the node at fault.
 --
 -- 1. Ask it anything. Whatever bytes come, and however short a lent buffer is, the reader of charts, the analysis, the checker and the totals

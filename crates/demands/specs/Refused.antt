@@ -4,7 +4,7 @@
 use Prim.Native.Nat.{ℕ}
 use mathlib.Core.List.{List, [], _∷_, _++_}
 use lib.ListN.{replicate, set, take}
-use Rattle.chart.specs.Refusals.{Said}
+use Rattle.refusals.specs.Refusals.{Said}
 use Rattle.chart.specs.Reading.{reading, verdictSays}
 use Rattle.analysis.specs.Analysis.{Buffers, analysed, analysedSays}
 use Rattle.demands.specs.Charts.{loopChart}

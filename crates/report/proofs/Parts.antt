@@ -8,8 +8,8 @@ use native.Mathlib.Omega.{arith}
 use borrow.Author.Tests.{ne-eqb}
 use Rattle.lists.specs.Lists.{listOf, joined}
 use Rattle.lists.proofs.Listed.{listOf-more}
-use Rattle.chart.specs.declared.refusals.Refusal.{Refusal}
-use Rattle.chart.specs.Refusals.{numberOf, placeOf}
+use Rattle.refusals.specs.declared.Refusal.{Refusal}
+use Rattle.refusals.specs.Refusals.{numberOf, placeOf}
 use Rattle.analysis.specs.declared.Analysed.the-variants.{Settled, Refused}
 use Rattle.report.specs.Text.{lineFeed, space, nodesWord, blocksWord, passesWord, noneWord, refusedWord, atWord, decimal}
 use Rattle.report.specs.Report.{classWord, nodeLine, reportOf}

@@ -8,7 +8,7 @@ use Rattle.lists.specs.Lists.{listOf, joined}
 use Rattle.chart.specs.Geometry.{mostNodes, mostBlocks}
 use Rattle.chart.specs.Header.{headerIn}
 use Rattle.chart.specs.Layout.{chartLength}
-use Rattle.chart.specs.Refusals.{numberOf, placeOf}
+use Rattle.refusals.specs.Refusals.{numberOf, placeOf}
 use Rattle.tables.specs.AgesFlow.{allPasses}
 use Rattle.analysis.specs.declared.Analysed.{Analysed}
 use Rattle.analysis.specs.declared.Analysed.the-variants.{Settled, Refused}

@@ -10,7 +10,7 @@ use crate::puts::put_byte;
 use crate::puts::put_decimal;
 use crate::puts::put_named;
 use crate::puts::put_word;
-use chart::Refusal;
+use refusals::Refusal;
 
 // Puts the word for a class, which is one of document 01's numbers.
 fn put_class(text: &mut [u8], at: usize, class: u8) -> usize

@@ -2,23 +2,33 @@
 use mathlib.Core.Bool.{cond}
 use mathlib.Core.List.{List}
 use mathlib.Core.Path.{_≡_, ap, _∙_}
-use Prim.Native.Nat.{ℕ, _<_}
+use Prim.Native.Nat.{ℕ, _+_, _<_}
+use native.Mathlib.Omega.{arith}
 use lib.ListN.{length, getD, set}
 use lib.Dec.{eqb}
 use Rattle.lists.specs.Lists.{listOf}
 use Rattle.lists.specs.Loops.{patch}
-use Rattle.lists.proofs.Loops.{patch-whole, patch-but}
+use Rattle.lists.proofs.Loops.{patch-ahead, patch-turn0, patch-whole, patch-but}
 
 -- `grow h a`: the age of another block of the set, where the touched block's is h.
-module _ (keys : List ℕ) (m : ℕ) (grow : ℕ → ℕ → ℕ) (row : List ℕ) (inside : m < length row) where
+module _ (keys : List ℕ) (m : ℕ) (grow : ℕ → ℕ → ℕ) (row : List ℕ) where
+  abbrev pub grows : ℕ → ℕ → ℕ
+  grows j age = cond (eqb (getD keys j 0) (getD keys m 0)) (grow (getD row m 0) age) age
+
   abbrev pub grown : ℕ → ℕ
-  grown j = cond (eqb (getD keys j 0) (getD keys m 0)) (grow (getD row m 0) (getD row j 0)) (getD row j 0)
+  grown j = grows j (getD row j 0)
+
+  -- A turn reads a place that no turn before it has stored to.
+  pub row-turn : (cur : List ℕ) (n v : ℕ) → cur ≡ patch row 0 n grown → v ≡ grows n (getD cur n 0) → set cur n v ≡ patch row 0 (n + 1) grown
+  row-turn cur n v e d =
+      let read : getD cur n 0 ≡ getD row n 0 = rw e (patch-ahead row 0 n grown n (omega arith)) in
+      patch-turn0 row n grown cur v e (d ∙ ap (grows n) read)
 
   abbrev pub touchedAge : ℕ → ℕ
   touchedAge j = cond (eqb j m) 0 (grown j)
 
-  pub touched-row : (out : List ℕ) (j : ℕ) → out ≡ patch row 0 j grown → j ≡ length row → set out m 0 ≡ listOf (length row) touchedAge
-  touched-row out j e end =
+  pub touched-row : m < length row → (out : List ℕ) (j : ℕ) → out ≡ patch row 0 j grown → j ≡ length row → set out m 0 ≡ listOf (length row) touchedAge
+  touched-row inside out j e end =
       ap (λ (l : List ℕ). set l m 0) (e ∙ ap (λ (k : ℕ). patch row 0 k grown) end)
       ∙ patch-but row (length row) grown m 0 inside
       ∙ patch-whole row touchedAge

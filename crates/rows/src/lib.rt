@@ -49,23 +49,22 @@ fn may_age(ways: u8, same: bool, h: u8, age: u8) -> u8
 
 impl Row {
     // The row after a touch of the block in column m, where each column's set has this key. All places are worked out alike, so that
-    // the loop's length is fixed.
-    fn touch(self, ways: u8, keys: &[u8], m: usize) -> Row
+    // the loop's length is fixed, and in the row itself, so that it is not copied.
+    fn touch(mut self, ways: u8, keys: &[u8], m: usize) -> Row
         requires { ⌜ (m < mostBlocks) × (mostBlocks ≤ length (now keys)) ⌝ }
         ensures { λ r. ⌜ r ≡ rowOf (touchAges (columnsBy (now (keys .entry)) mostBlocks ways) m (agesIn self)) ⌝ }
     {
-        let mut out = self;
         let h = self.must[m];
         let g = self.may[m];
         let key = keys[m];
         for j in 0..Geometry::BLOCKS {
             let same = keys[j] == key;
-            out.must[j] = must_age(same, h, self.must[j]);
-            out.may[j] = may_age(ways, same, g, self.may[j]);
+            self.must[j] = must_age(same, h, self.must[j]);
+            self.may[j] = may_age(ways, same, g, self.may[j]);
         }
-        out.must[m] = 0;
-        out.may[m] = 0;
-        out
+        self.must[m] = 0;
+        self.may[m] = 0;
+        self
     }
 
     // The row after a record. A bare step hands it back as it is.

@@ -3,9 +3,9 @@ mod sounding;
 
 use crate::sounding::loop_checked;
 use crate::sounding::loop_totals;
-use chart::Refusal;
 use checker::Checked;
 use libc::STDOUT_FILENO;
+use refusals::Refusal;
 use totals::Totals;
 
 // Writes a word and a number.

@@ -1,4 +1,5 @@
 pub mod Laid
+pub mod Loading
 pub mod Shaping
 pub mod Stepping
 pub mod Ageing

@@ -4,6 +4,7 @@ ghost use Prim.Native.Nat.{_+_, _*_, _≤_, _<_, max, min};
 ghost use mathlib.Core.Bool.{cond};
 ghost use lib.ListN.{length, getD};
 ghost use Rattle.lists.specs.Loops.{patch};
+ghost use Rattle.chart.specs.Geometry.{mostBlocks};
 ghost use Rattle.cache.specs.Ages.{Ages, ageOf};
 ghost use Rattle.tables.specs.AgesFlow.{isEmpty};
 ghost use Rattle.tables.specs.Lent.{Lent};
@@ -22,23 +23,38 @@ pub fn start_age(start: Start, ways: u8) -> u8
     }
 }
 
-// What stands from a place on, as much as a row holds and there is, zeros after it. A whole row's length is fixed, and so its loop's.
+// What stands from a place on, as much as a row holds and there is, zeros after it.
 fn load(buffer: &[u8], base: usize) -> [u8; Geometry::BLOCKS]
     requires { ⌜ base ≤ length (now buffer) ⌝ }
     ensures { λ r. ⌜ r ≡ loaded base (now (buffer .entry)) ⌝ }
 {
     let mut ages = [0u8; Geometry::BLOCKS];
     let room = buffer.len() - base;
-    if room < Geometry::BLOCKS {
-        for j in 0..room {
-            ages[j] = buffer[base + j];
-        }
-        return ages;
-    }
-    for j in 0..Geometry::BLOCKS {
+    let count = if room < Geometry::BLOCKS {
+        room
+    } else {
+        Geometry::BLOCKS
+    };
+    for j in 0..count {
         ages[j] = buffer[base + j];
     }
     ages
+}
+
+// The same of both kinds of ages, where there is as much as a row holds: the loop's length is fixed, and it stores into the row itself.
+fn load_whole(must: &[u8], may: &[u8], base: usize) -> Row
+    requires { ⌜ (base + mostBlocks ≤ length (now must)) × (base + mostBlocks ≤ length (now may)) ⌝ }
+    ensures { λ r. ⌜ r ≡ record { must = loaded base (now (must .entry)); may = loaded base (now (may .entry)) } ⌝ }
+{
+    let mut row = Row {
+        must: [0u8; Geometry::BLOCKS],
+        may: [0u8; Geometry::BLOCKS],
+    };
+    for j in 0..Geometry::BLOCKS {
+        row.must[j] = must[base + j];
+        row.may[j] = may[base + j];
+    }
+    row
 }
 
 // Row n of a table of so many blocks, by value.
@@ -47,6 +63,11 @@ pub fn load_row(must: &[u8], may: &[u8], blocks: usize, n: usize) -> Row
     ensures { λ r. ⌜ r ≡ loadedRow blocks n (now (must .entry)) (now (may .entry)) ⌝ }
 {
     let base = n * blocks;
+    let must_room = must.len() - base;
+    let may_room = may.len() - base;
+    if (Geometry::BLOCKS <= must_room) & (Geometry::BLOCKS <= may_room) {
+        return load_whole(must, may, base);
+    }
     let musts = load(must, base);
     let mays = load(may, base);
     Row {

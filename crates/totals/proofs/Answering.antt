@@ -12,8 +12,8 @@ use Rattle.lists.specs.Loops.{patch}
 use Rattle.lists.proofs.Choice.{and-true}
 use Rattle.lists.proofs.Loops.{length-patch}
 use Rattle.chart.specs.declared.headers.Header.{Header}
-use Rattle.chart.specs.declared.refusals.Refusal.{Refusal}
-use Rattle.chart.specs.declared.refusals.Refusal.the-variants.{NotPassing, BoundsLength, Costs, FloorAboveCeiling, FloorAtUnmarked}
+use Rattle.refusals.specs.declared.Refusal.{Refusal}
+use Rattle.refusals.specs.declared.Refusal.the-variants.{NotPassing, BoundsLength, Costs, FloorAboveCeiling, FloorAtUnmarked}
 use Rattle.chart.specs.Geometry.{mostNodes, mostBlocks, setOf}
 use Rattle.chart.specs.Chart.{Chart, chartIn, nodeAt}
 use Rattle.chart.specs.Inner.{Found}

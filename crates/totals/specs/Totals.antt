@@ -6,9 +6,9 @@ use lib.ListN.{getD, length}
 use lib.Dec.{ltb, eqb}
 use Rattle.lists.specs.Choice.{Rule, _⇒_, firstRule, first}
 use Rattle.lists.specs.Lists.{sumOf}
-use Rattle.chart.specs.declared.refusals.Refusal.{Refusal}
-use Rattle.chart.specs.declared.refusals.Refusal.the-variants.{ShortBuffer, NotPassing, BoundsLength, Costs, FloorAboveCeiling, FloorAtUnmarked}
-use Rattle.chart.specs.Refusals.{Said, answerWith, refusalSays}
+use Rattle.refusals.specs.declared.Refusal.{Refusal}
+use Rattle.refusals.specs.declared.Refusal.the-variants.{ShortBuffer, NotPassing, BoundsLength, Costs, FloorAboveCeiling, FloorAtUnmarked}
+use Rattle.refusals.specs.Refusals.{Said, answerWith, refusalSays}
 use Rattle.chart.specs.Chart.{Chart, Read, accepted, refused, readChart, touches}
 use Rattle.cache.specs.Ages.{Ages}
 use Rattle.flow.specs.Flow.{Cell, blank, holds, cellAt}

@@ -12,10 +12,10 @@ use crate::bounds::first_crossed;
 use crate::bounds::first_floor_at_unmarked;
 use crate::sums::sum_nodes;
 use chart::Header;
-use chart::Refusal;
 use chart::Verdict;
 use checker::Checked;
 use passes::Shape;
+use refusals::Refusal;
 
 // The low and the high total, or a refusal.
 pub enum Totals {

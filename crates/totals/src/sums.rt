@@ -20,14 +20,14 @@ pub(crate) struct Sums {
 fn low_rate(class: u8, hit: u16, miss: u16) -> u16
     ensures { λ r. ⌜ r ≡ lowRate (costsOf hit miss) class ⌝ }
 {
-    if class == 2 { miss } else { hit }
+    if class == analysis::MISS { miss } else { hit }
 }
 
 // What the high total counts for it: the hit cost for a hit, else the miss cost.
 fn high_rate(class: u8, hit: u16, miss: u16) -> u16
     ensures { λ r. ⌜ r ≡ highRate (costsOf hit miss) class ⌝ }
 {
-    if class == 1 { hit } else { miss }
+    if class == analysis::HIT { hit } else { miss }
 }
 
 // The sums with one reference of this class added.

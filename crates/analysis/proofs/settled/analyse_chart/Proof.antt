@@ -4,7 +4,7 @@ use mathlib.Core.Bool.{Bool, true, false, cond}
 use mathlib.Core.List.{List}
 use mathlib.Core.Path.{_≡_, sym, _∙_}
 use denote.Ref.{now}
-use Rattle.chart.specs.declared.refusals.Refusal.the-variants.{ShortBuffer}
+use Rattle.refusals.specs.declared.Refusal.the-variants.{ShortBuffer}
 use Rattle.chart.specs.Chart.{chartIn}
 use Rattle.chart.specs.Inner.{Found}
 use Rattle.chart.proofs.Answers.{found-nodes, found-blocks}

@@ -1,36 +1,55 @@
 use borrow.Author.Needs.{needs}
-use mathlib.Core.Path.{_≡_}
-use Prim.Native.Nat.{_-_, _≤_}
-use Rattle.lists.specs.Choice.{first, firstFrom}
-use Rattle.chart.proofs.Search.{notBelow, place-begins, place-passes, place-found, place-ends}
+use mathlib.Core.Path.{_≡_, sym}
+use Prim.Native.Nat.{_+_, _-_, _≤_}
+use native.Mathlib.Omega.{arith}
+use lib.ListN.{take}
+use Rattle.chart.specs.Blocks.{placeIn}
+use Rattle.chart.proofs.Search.{place-nil, place-past-all, place-turn, place-fits}
 use Rattle.chart.proofs.blocks.place_in.Statement.{statement}
 use Rattle.chart.proofs.blocks.place_in.Tie as tie
 
 abbrev Inv-loop : tie.InvT-loop
-Inv-loop blocks count block place₀ place = (place ≤ count) × (first count (notBelow blocks count block) ≡ firstFrom place (count - place) (notBelow blocks count block))
+Inv-loop blocks count block below₀ i₀ below i = (i ≤ count) × (below ≡ placeIn (take i blocks) block)
 
 abbrev μ-loop : tie.MeasureT-loop
-μ-loop blocks count block place₀ place = count - place
+μ-loop blocks count block below₀ i₀ below i = count - i
 
-loop-holds : tie.Need-loop-holds Inv-loop μ-loop
-loop-holds c =
-    let a = c .args in
-    (search needs, place-begins (a .blocks .now) (a .count) (a .block) (c .pre .0))
+sub-if2 : tie.Need-sub-if2 Inv-loop μ-loop
+sub-if2 c = search needs
 
-mul-if1 : tie.Need-mul-if1 Inv-loop μ-loop
-mul-if1 c = search needs
+mul-if2 : tie.Need-mul-if2 Inv-loop μ-loop
+mul-if2 c = search needs
 
-shared-slice-read-if1 : tie.Need-shared-slice-read-if1 Inv-loop μ-loop
-shared-slice-read-if1 c = search needs
+shared-slice-read-if2 : tie.Need-shared-slice-read-if2 Inv-loop μ-loop
+shared-slice-read-if2 c = search needs
 
 returns : tie.Need-returns Inv-loop μ-loop
 returns c =
-    let s = c .before .before .before .before in
-    let l = c .before .before .before .loop in
-    place-found (s .args .blocks .now) (s .args .count) (s .args .block) (s .pre .0) (l .place) (c .before .before .loop-test .taken) (c .if1 .taken) (l .inv .1)
+    let s = c .before .before .before in
+    place-past-all (s .args .blocks .now) (s .args .count) (s .args .block) (s .pre .0) (s .pre .1) (c .before .before .if1 .taken) (c .if2 .taken)
 
-add-place : tie.Need-add-place Inv-loop μ-loop
-add-place c = search needs
+loop-holds : tie.Need-loop-holds Inv-loop μ-loop
+loop-holds c = (search needs, sym (place-nil (c .before .args .block)))
+
+mul-below : tie.Need-mul-below Inv-loop μ-loop
+mul-below c = search needs
+
+shared-slice-read-below : tie.Need-shared-slice-read-below Inv-loop μ-loop
+shared-slice-read-below c = search needs
+
+cast-below : tie.Need-cast-below Inv-loop μ-loop
+cast-below c = search needs
+
+add-below : tie.Need-add-below Inv-loop μ-loop
+add-below c =
+    let s = c .before .before .before .before in
+    let l = c .before .before .loop in
+    let turn = place-turn (s .args .blocks .now) (s .args .count) (s .args .block) (s .pre .0) (s .pre .1) (l .i) (c .before .loop-test .taken) in
+    let fits = place-fits (s .args .blocks .now) (s .args .count) (s .args .block) (s .pre .0) (s .pre .1) (l .i + 1) (omega (arith, c .before .loop-test .taken)) in
+    omega (arith, turn, fits, l .inv .1)
+
+add-i : tie.Need-add-i Inv-loop μ-loop
+add-i c = search needs
 
 loop-less : tie.Need-loop-less Inv-loop μ-loop
 loop-less c = search needs
@@ -38,14 +57,21 @@ loop-less c = search needs
 loop-again : tie.Need-loop-again Inv-loop μ-loop
 loop-again c =
     let s = c .before .before .before .before in
-    let l = c .before .before .before .loop in
-    (search needs, place-passes (s .args .blocks .now) (s .args .count) (s .args .block) (s .pre .0) (l .place) (c .before .before .loop-test .taken) (c .if1 .left) (l .inv .1))
+    let l = c .before .before .loop in
+    let turn = place-turn (s .args .blocks .now) (s .args .count) (s .args .block) (s .pre .0) (s .pre .1) (l .i) (c .before .loop-test .taken) in
+    (search needs, omega (arith, turn, l .inv .1))
+
+cast-result : tie.Need-cast-result Inv-loop μ-loop
+cast-result c =
+    let s = c .before .before .before in
+    let l = c .before .loop in
+    let fits = place-fits (s .args .blocks .now) (s .args .count) (s .args .block) (s .pre .0) (s .pre .1) (l .i) (l .inv .0) in
+    omega (arith, fits, l .inv .1)
 
 returns-2 : tie.Need-returns-2 Inv-loop μ-loop
 returns-2 c =
-    let s = c .before .before in
-    let l = c .before .loop in
-    place-ends (s .args .blocks .now) (s .args .count) (s .args .block) (s .pre .0) (l .place) (c .loop-test .left) (l .inv .1)
+    let e : c .before .loop .i ≡ c .before .before .before .args .count = omega arith
+    in rw (c .before .loop .inv .1, e)
 
 pub place-in-spec : {M : Type 1} → statement M
 place-in-spec =
@@ -53,11 +79,17 @@ place-in-spec =
     (tie.spec
     Inv-loop
     μ-loop
-    loop-holds
-    mul-if1
-    shared-slice-read-if1
+    sub-if2
+    mul-if2
+    shared-slice-read-if2
     returns
-    add-place
+    loop-holds
+    mul-below
+    shared-slice-read-below
+    cast-below
+    add-below
+    add-i
     loop-less
     loop-again
+    cast-result
     returns-2)

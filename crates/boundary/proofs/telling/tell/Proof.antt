@@ -1,0 +1,92 @@
+use borrow.Author.Needs.{needs}
+use borrow.Author.Tests.{lt-ltb, le-ltb}
+use Prim.Native.Nat.{_≤_, _-_}
+use mathlib.Core.Path.{_≡_, refl}
+use native.Mathlib.Omega.{arith}
+use denote.Ref.{now}
+use lib.ListN.{length, getD}
+use Rattle.lists.specs.Loops.{patch}
+use Rattle.lists.proofs.Loops.{patch-turn0, patch-written}
+use Rattle.lists.proofs.Listed.{listOf-all}
+use Rattle.boundary.proofs.telling.tell.Statement.{statement}
+use Rattle.boundary.proofs.telling.tell.Tie as tie
+
+abbrev Inv-loop : tie.InvT-loop
+Inv-loop numbers lent₀ count k₀ lent k =
+    (k ≤ count) × ((length lent ≡ length lent₀) × (lent ≡ patch lent₀ 0 k (λ j. getD numbers j 0)))
+
+abbrev μ-loop : tie.MeasureT-loop
+μ-loop numbers lent₀ count k₀ lent k = count - k
+
+-- src/telling.rt:16:9
+returns : tie.Need-returns Inv-loop μ-loop
+returns c = rw (lt-ltb _ _ (c .if1 .taken))
+
+-- src/telling.rt:18:5
+loop-holds : tie.Need-loop-holds Inv-loop μ-loop
+loop-holds c = search needs
+
+-- src/telling.rt:19:19
+mul-lent : tie.Need-mul-lent Inv-loop μ-loop
+mul-lent c = search needs
+
+-- src/telling.rt:19:19
+shared-slice-read-lent : tie.Need-shared-slice-read-lent Inv-loop μ-loop
+shared-slice-read-lent c = search needs
+
+-- src/telling.rt:19:9
+mul-lent-2 : tie.Need-mul-lent-2 Inv-loop μ-loop
+mul-lent-2 c = search needs
+
+-- src/telling.rt:19:9
+slice-write-lent : tie.Need-slice-write-lent Inv-loop μ-loop
+slice-write-lent c = search needs
+
+-- src/telling.rt:18:9
+add-k : tie.Need-add-k Inv-loop μ-loop
+add-k c = search needs
+
+-- src/telling.rt:18:5
+loop-less : tie.Need-loop-less Inv-loop μ-loop
+loop-less c = search needs
+
+-- src/telling.rt:18:5
+loop-again : tie.Need-loop-again Inv-loop μ-loop
+loop-again c = (search needs, (search needs, patch-turn0 _ _ _ _ _ (c .before .before .loop .inv .1 .1) refl))
+
+-- src/telling.rt:11:1
+same-length : tie.Need-same-length Inv-loop μ-loop
+same-length c = search needs
+
+-- src/telling.rt:11:1
+returns-2 : tie.Need-returns-2 Inv-loop μ-loop
+returns-2 c =
+    let lent = now (c .before .before .before .args .lent) in
+    let numbers = now (c .before .before .before .args .numbers) in
+    let end : c .before .loop .k ≡ length numbers = omega arith in
+    let room : length numbers ≤ length lent = omega arith in
+    rw (
+      c .before .loop .inv .1 .1,
+      end,
+      patch-written lent (length numbers) (λ j. getD numbers j 0) room,
+      listOf-all numbers 0,
+      le-ltb _ _ (c .before .before .if1 .left),
+    )
+
+pub tell-spec : {M : Type 1} → statement M
+tell-spec =
+    tie.close
+    (tie.spec
+    Inv-loop
+    μ-loop
+    returns
+    loop-holds
+    mul-lent
+    shared-slice-read-lent
+    mul-lent-2
+    slice-write-lent
+    add-k
+    loop-less
+    loop-again
+    same-length
+    returns-2)

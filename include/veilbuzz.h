@@ -1,0 +1,153 @@
+/* Veilbuzz for C: does a memory reference always hit the cache, always miss, or can it not be told?
+ *
+ * Link with the archive that tests/archive makes:  cc -Iinclude mine.c "$(tests/archive)/libboundary.a"
+ * examples/loop.c is a whole program, and charts/README.md has the chart's bits.
+ *
+ * What the functions answer and leave is proved of their source, for any bytes and any lengths: each ends, and writes only what is said
+ * here. That the compiled code and these declarations agree with that source is tried by tests (docs/ASSURANCE.md). The functions
+ * allocate nothing, keep nothing between two calls and call nothing but memcpy and memset; calls with buffers of their own may run at
+ * the same time.
+ *
+ * What a caller has to keep, since C cannot say it: behind each pointer there are as many elements as the length after it says, aligned
+ * for their type and set to something; a buffer that is written overlaps no other of the same call, and nobody else touches it meanwhile;
+ * no pointer is NULL, also where its length is 0 (malloc(0) may return NULL). Costs and bounds have 16 bits: C cuts a larger number
+ * without a word, unless -Wconversion is given.
+ *
+ * Below, N is the chart's number of nodes, B its number of blocks, and A the ways in a set.
+ */
+#ifndef VEILBUZZ_H
+#define VEILBUZZ_H
+
+#include <stddef.h>
+#include <stdint.h>
+
+#if SIZE_MAX != UINT64_MAX
+#error "Veilbuzz is for machines with a size_t of 64 bits"
+#endif
+
+#ifdef __cplusplus
+extern "C" {
+#endif
+
+/* Limits: what is enough for every chart. */
+enum {
+    VEILBUZZ_MOST_NODES = 256,
+    VEILBUZZ_MOST_BLOCKS = 64,
+    VEILBUZZ_LONGEST_CHART = 2056, /* bytes */
+    VEILBUZZ_ENOUGH_PASSES = 262401
+};
+
+/* The answer of every function: seven numbers, in these places of `answer`. A number that a function does not have is 0, and so are all
+ * but the first two after a refusal (12 apart). A longer `answer` keeps its tail. One of fewer than seven places stays as it was: the
+ * work is done all the same and the refusal's number is returned, but the rest of the answer is lost. */
+enum {
+    VEILBUZZ_ANSWER_NUMBER = 0, /* the refusal's number, 0 for none; also what the function returns */
+    VEILBUZZ_ANSWER_PLACE = 1,  /* the node at fault for refusals 9, 10, 16 and 17, else 0 */
+    VEILBUZZ_ANSWER_PASSES = 2, /* analyse: the passes made, the last one included, which changed nothing; after 12 the allowance */
+    VEILBUZZ_ANSWER_BLOCKS = 3, /* read, analyse: B; also after 12 */
+    VEILBUZZ_ANSWER_YES = 4,    /* check: 1 where the table passes */
+    VEILBUZZ_ANSWER_LOW = 5,    /* total: the low total */
+    VEILBUZZ_ANSWER_HIGH = 6,   /* total: the high total */
+    VEILBUZZ_ANSWER_LENGTH = 7
+};
+
+/* The header that veilbuzz_read tells: six numbers, in these places of `header`. */
+enum {
+    VEILBUZZ_HEADER_LINE_BITS = 0, /* L: a line is 2^L bytes */
+    VEILBUZZ_HEADER_SET_BITS = 1,  /* S: there are 2^S sets */
+    VEILBUZZ_HEADER_WAYS = 2,      /* A: ways in a set */
+    VEILBUZZ_HEADER_START = 3,     /* VEILBUZZ_START_UNKNOWN or VEILBUZZ_START_EMPTY */
+    VEILBUZZ_HEADER_NODES = 4,     /* N */
+    VEILBUZZ_HEADER_ENTRY = 5,     /* the entry node */
+    VEILBUZZ_HEADER_LENGTH = 6
+};
+
+/* What the cache holds when a walk begins. */
+enum {
+    VEILBUZZ_START_UNKNOWN = 0,
+    VEILBUZZ_START_EMPTY = 1
+};
+
+/* What `classes` says of a node. */
+enum {
+    VEILBUZZ_CLASS_UNREACHED = 0, /* no walk comes here */
+    VEILBUZZ_CLASS_HIT = 1,       /* the reference always hits */
+    VEILBUZZ_CLASS_MISS = 2,      /* the reference always misses */
+    VEILBUZZ_CLASS_UNSURE = 3,    /* it cannot be told */
+    VEILBUZZ_CLASS_NONE = 4       /* a bare step: there is no reference */
+};
+
+/* The refusals, looked for in this order; the first that applies is given.
+ *
+ *   no.  exactly when                                           place        what to do
+ *    1   the chart has fewer than 8 bytes                       0            give the whole file
+ *    2   its edition is not 1                                   0            the first byte has to be 01
+ *    3   L not 2 to 8, S not 0 to 8, or A not 1 to 8            0            look at the cache's shape
+ *    4   its start code is neither 0 nor 1                      0            0 is unknown, 1 is empty
+ *    5   N is not 1 to 256                                      0            split the chart, or mend the count
+ *    6   its entry is not below N                               0            name a node that there is
+ *    7   a spare bit of the header is set                       0            clear it
+ *    8   it is not 8 + 8 N bytes long                           0            cut it, or add the missing records
+ *    9   a record breaks its rules                              first such   mend that node's record
+ *   10   it has over 64 blocks                                  brings 65th  split the chart
+ *   11   a buffer is shorter than used; not of floors,          0            lend N, B or N * B elements, as said below
+ *        ceilings, `header` and `answer`
+ *   12   not settled within the allowance                       0            allow VEILBUZZ_ENOUGH_PASSES
+ *   13   the table does not pass                                0            lend the one that veilbuzz_analyse wrote
+ *   14   floors or ceilings are not exactly N long              0            one number for each node
+ *   15   the miss cost is below the hit cost                    0            swap them, if they were swapped
+ *   16   a floor is above its ceiling                           first such   mend that node's two bounds
+ *   17   a floor is above 0 at an unmarked node                 first such   no walk comes there: make it 0
+ */
+
+/* Reads a chart, as a caller does first who wants to know N and B: refusals 1 to 10. Where none of them applies, the header is told in
+ * the first six places of `header`, and B in `answer`. A longer `header` keeps its tail; one of fewer than six places stays as it was,
+ * and so does any after a refusal. */
+uint64_t veilbuzz_read(const uint8_t *chart, size_t chart_length,
+                       uint64_t *header, size_t header_length,
+                       uint64_t *answer, size_t answer_length);
+
+/* Analyses a chart with at most `allowance` passes: refusals 1 to 12. It uses, and writes, the first
+ *   B      of `blocks`: the block numbers, ascending
+ *   N * B  of `must` and of `may`: on arrival at node n the age of blocks[k] is never above must[n * B + k] nor below may[n * B + k]; an
+ *          age is 0 for the youngest, A for a block that is not there; the rows of unmarked nodes are 0
+ *   N      of `marks`: 1 where a walk comes, else 0
+ *   N      of `classes`: see above
+ * Longer buffers keep their tails, and what these held before does not matter. After refusals 1 to 11 none of the five has changed. After
+ * 12 the blocks are written and the other used parts are 0, which then says nothing of the chart. */
+uint64_t veilbuzz_analyse(const uint8_t *chart, size_t chart_length,
+                          size_t allowance,
+                          uint32_t *blocks, size_t blocks_length,
+                          uint8_t *must, size_t must_length,
+                          uint8_t *may, size_t may_length,
+                          uint8_t *marks, size_t marks_length,
+                          uint8_t *classes, size_t classes_length,
+                          uint64_t *answer, size_t answer_length);
+
+/* Says whether a table passes document 01's equations, whoever made it: refusals 1 to 11. What it returns is 0 for a table that passes
+ * and for one that does not: answer[VEILBUZZ_ANSWER_YES] alone tells them apart. Only the first N * B of `must` and `may` and the first
+ * N of `marks` matter, laid out as above. It writes `answer` alone. */
+uint64_t veilbuzz_check(const uint8_t *chart, size_t chart_length,
+                        const uint8_t *must, size_t must_length,
+                        const uint8_t *may, size_t may_length,
+                        const uint8_t *marks, size_t marks_length,
+                        uint64_t *answer, size_t answer_length);
+
+/* The two totals of a table that passes: refusals 1 to 11 and 13 to 17. Take a walk from the chart's entry and start that comes to each
+ * node no fewer times than its floor and no more than its ceiling, and pays `hit` for each hit, `miss` for each miss and nothing at a
+ * bare step: what it costs lies between the low and the high total, both included. The table is read as veilbuzz_check reads it. It writes
+ * `answer` alone. */
+uint64_t veilbuzz_total(const uint8_t *chart, size_t chart_length,
+                        const uint8_t *must, size_t must_length,
+                        const uint8_t *may, size_t may_length,
+                        const uint8_t *marks, size_t marks_length,
+                        uint16_t hit, uint16_t miss,
+                        const uint16_t *floors, size_t floors_length,
+                        const uint16_t *ceilings, size_t ceilings_length,
+                        uint64_t *answer, size_t answer_length);
+
+#ifdef __cplusplus
+}
+#endif
+
+#endif

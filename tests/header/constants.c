@@ -1,0 +1,120 @@
+/* Each constant of include/veilbuzz.h names what its name says. Nothing else uses all of them, and nothing checks them against the proved
+ * source; so here every number that is told differs from its neighbours. */
+#include <stdio.h>
+#include <string.h>
+
+#include "veilbuzz.h"
+
+static uint8_t chart[VEILBUZZ_LONGEST_CHART + 8];
+static uint32_t blocks[VEILBUZZ_MOST_BLOCKS];
+static uint8_t must[VEILBUZZ_MOST_NODES * VEILBUZZ_MOST_BLOCKS], may[VEILBUZZ_MOST_NODES * VEILBUZZ_MOST_BLOCKS];
+static uint8_t marks[VEILBUZZ_MOST_NODES], classes[VEILBUZZ_MOST_NODES];
+static uint64_t header[VEILBUZZ_HEADER_LENGTH], answer[VEILBUZZ_ANSWER_LENGTH];
+static int wrong;
+
+static void is(const char *what, uint64_t told, uint64_t expected) {
+    if (told != expected) {
+        printf("%s is %llu and not %llu\n", what, (unsigned long long)told, (unsigned long long)expected);
+        wrong++;
+    }
+}
+#define IS(what, expected) is(#what, (what), (expected))
+
+/* Eight bytes, the most significant first. */
+static void word(size_t place, uint64_t value) {
+    int byte;
+    for (byte = 0; byte < 8; byte++)
+        chart[8 * place + byte] = (uint8_t)(value >> (56 - 8 * byte));
+}
+
+/* Lines of 32 bytes, eight sets of two ways; `entry` is below 4096. */
+static void head(uint64_t start, uint64_t nodes, uint64_t entry) {
+    memset(chart, 0, sizeof chart);
+    word(0, (uint64_t)1 << 56 | (uint64_t)5 << 52 | (uint64_t)3 << 48 | (uint64_t)2 << 44 | start << 42 | nodes << 20 | entry << 8);
+}
+
+static void node(size_t n, uint64_t kind, uint64_t address, uint64_t arrows, uint64_t first) {
+    word(n + 1, kind << 62 | address << 30 | arrows << 28 | first << 16);
+}
+
+static uint64_t read_chart(size_t nodes) {
+    return veilbuzz_read(chart, 8 + 8 * nodes, header, VEILBUZZ_HEADER_LENGTH, answer, VEILBUZZ_ANSWER_LENGTH);
+}
+
+static uint64_t analyse(size_t nodes, size_t allowance) {
+    return veilbuzz_analyse(chart, 8 + 8 * nodes, allowance, blocks, VEILBUZZ_MOST_BLOCKS, must, sizeof must, may, sizeof may, marks,
+                            sizeof marks, classes, sizeof classes, answer, VEILBUZZ_ANSWER_LENGTH);
+}
+
+/* Seven nodes: 4 misses, 5 hits, 6 has no reference, 0 loops on itself and is unsure, and no walk comes to 1, 2 and 3. */
+static void seven(uint64_t start) {
+    head(start, 7, 4);
+    node(4, 1, 0x00, 1, 5);
+    node(5, 1, 0x00, 1, 6);
+    node(6, 0, 0x00, 1, 0);
+    node(0, 1, 0x20, 1, 0);
+}
+
+static void answers(void) {
+    static const uint16_t floors[] = {1, 0, 0, 0, 1, 1, 1}, ceilings[] = {9, 0, 0, 0, 1, 1, 1};
+    seven(VEILBUZZ_START_EMPTY);
+    IS(analyse(7, VEILBUZZ_ENOUGH_PASSES), 0);
+    IS(answer[VEILBUZZ_ANSWER_PASSES], 3);
+    IS(answer[VEILBUZZ_ANSWER_BLOCKS], 2);
+    IS(classes[0], VEILBUZZ_CLASS_UNSURE);
+    IS(classes[1], VEILBUZZ_CLASS_UNREACHED);
+    IS(classes[4], VEILBUZZ_CLASS_MISS);
+    IS(classes[5], VEILBUZZ_CLASS_HIT);
+    IS(classes[6], VEILBUZZ_CLASS_NONE);
+    IS(veilbuzz_check(chart, 64, must, 14, may, 14, marks, 7, answer, VEILBUZZ_ANSWER_LENGTH), 0);
+    IS(answer[VEILBUZZ_ANSWER_YES], 1);
+    IS(veilbuzz_total(chart, 64, must, 14, may, 14, marks, 7, 1, 10, floors, 7, ceilings, 7, answer, VEILBUZZ_ANSWER_LENGTH), 0);
+    IS(answer[VEILBUZZ_ANSWER_LOW], 12);
+    IS(answer[VEILBUZZ_ANSWER_HIGH], 101);
+    chart[8 * (3 + 1) + 7] = 1; /* a spare bit of node 3 */
+    IS(read_chart(7), 9);
+    IS(answer[VEILBUZZ_ANSWER_NUMBER], 9);
+    IS(answer[VEILBUZZ_ANSWER_PLACE], 3);
+}
+
+static void headers(void) {
+    seven(VEILBUZZ_START_EMPTY);
+    IS(read_chart(7), 0);
+    IS(header[VEILBUZZ_HEADER_LINE_BITS], 5);
+    IS(header[VEILBUZZ_HEADER_SET_BITS], 3);
+    IS(header[VEILBUZZ_HEADER_WAYS], 2);
+    IS(header[VEILBUZZ_HEADER_START], VEILBUZZ_START_EMPTY);
+    IS(header[VEILBUZZ_HEADER_NODES], 7);
+    IS(header[VEILBUZZ_HEADER_ENTRY], 4);
+    IS(analyse(7, VEILBUZZ_ENOUGH_PASSES), 0);
+    IS(classes[4], VEILBUZZ_CLASS_MISS); /* from an empty cache */
+    seven(VEILBUZZ_START_UNKNOWN);
+    IS(read_chart(7), 0);
+    IS(header[VEILBUZZ_HEADER_START], VEILBUZZ_START_UNKNOWN);
+    IS(analyse(7, VEILBUZZ_ENOUGH_PASSES), 0);
+    IS(classes[4], VEILBUZZ_CLASS_UNSURE); /* from one that may have the block */
+}
+
+static void limits(void) {
+    size_t n;
+    IS(VEILBUZZ_LONGEST_CHART, 8 + 8 * VEILBUZZ_MOST_NODES);
+    head(VEILBUZZ_START_EMPTY, VEILBUZZ_MOST_NODES, 0);
+    IS(read_chart(VEILBUZZ_MOST_NODES), 0);
+    for (n = 0; n < VEILBUZZ_MOST_BLOCKS; n++)
+        node(n, 1, 32 * n, 0, 0);
+    IS(read_chart(VEILBUZZ_MOST_NODES), 0);
+    IS(answer[VEILBUZZ_ANSWER_BLOCKS], VEILBUZZ_MOST_BLOCKS);
+    node(n, 1, 32 * n, 0, 0);
+    IS(read_chart(VEILBUZZ_MOST_NODES), 10);
+    head(VEILBUZZ_START_EMPTY, VEILBUZZ_MOST_NODES + 1, 0);
+    IS(read_chart(VEILBUZZ_MOST_NODES + 1), 5);
+    IS(VEILBUZZ_ENOUGH_PASSES, VEILBUZZ_MOST_NODES * (1 + 2 * VEILBUZZ_MOST_BLOCKS * 8) + 1);
+}
+
+int main(void) {
+    answers();
+    headers();
+    limits();
+    printf("the constants of include/veilbuzz.h: %d wrong\n", wrong);
+    return wrong != 0;
+}

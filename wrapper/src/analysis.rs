@@ -1,0 +1,71 @@
+use crate::{analyse, read, Buffers, Class, Header, Refusal, Table, PASSES};
+use std::ops::Range;
+
+/// A settled analysis in buffers of its own, just as long as used.
+#[derive(Clone, Debug, PartialEq, Eq)]
+pub struct Analysis {
+    pub header: Header,
+    /// The passes made, the last one that changed nothing included.
+    pub passes: usize,
+    /// The block numbers, ascending.
+    pub blocks: Vec<u32>,
+    /// What is known of each node.
+    pub classes: Vec<Class>,
+    must: Vec<u8>,
+    may: Vec<u8>,
+    marks: Vec<u8>,
+}
+
+impl Analysis {
+    /// The analysis of a chart, or one of refusals 1 to 10: the buffers are long enough, and so many passes are.
+    pub fn of(chart: &[u8]) -> Result<Analysis, Refusal> {
+        let header = read(chart)?;
+        let Header { nodes, blocks, .. } = header;
+        let mut list = vec![0; blocks];
+        let mut must = vec![0; nodes * blocks];
+        let mut may = vec![0; nodes * blocks];
+        let mut marks = vec![0; nodes];
+        let mut classes = vec![0; nodes];
+        let lent = Buffers {
+            blocks: &mut list,
+            must: &mut must,
+            may: &mut may,
+            marks: &mut marks,
+            classes: &mut classes,
+        };
+        let settled = analyse(chart, PASSES, lent)?;
+        let class = |&number| Class::of(number).expect("the analysis writes classes 0 to 4");
+        Ok(Analysis {
+            header,
+            passes: settled.passes,
+            blocks: list,
+            classes: classes.iter().map(class).collect(),
+            must,
+            may,
+            marks,
+        })
+    }
+
+    /// The table, to be lent to [`check`](crate::check) or [`total`](crate::total).
+    pub fn table(&self) -> Table<'_> {
+        Table {
+            must: &self.must,
+            may: &self.may,
+            marks: &self.marks,
+        }
+    }
+
+    /// The must ages on arrival at a node, one for each block.
+    pub fn must(&self, node: usize) -> &[u8] {
+        &self.must[self.row(node)]
+    }
+
+    /// The may ages on arrival at a node, one for each block.
+    pub fn may(&self, node: usize) -> &[u8] {
+        &self.may[self.row(node)]
+    }
+
+    fn row(&self, node: usize) -> Range<usize> {
+        node * self.blocks.len()..(node + 1) * self.blocks.len()
+    }
+}

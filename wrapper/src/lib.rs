@@ -1,0 +1,32 @@
+//! Veilbuzz for Rust: does a memory reference always hit the cache, always miss, or can it not be told?
+//!
+//! This is a thin and safe cover over the C functions of `include/veilbuzz.h`. Those are proved: for any bytes and any lengths each gives
+//! the answer that document 01 defines, writes only what is said here, and ends. The cover itself is ordinary Rust.
+//!
+//! [`Analysis::of`] is the short way, with buffers of its own. [`read`], [`analyse`], [`check`] and [`total`] are the four functions with
+//! buffers that the caller lends. `examples/loop.rs` is a whole program.
+//!
+//! The archive that is linked, libboundary.a, is looked for in the folder that VEILBUZZ_ARCHIVE names, or else in target/archive;
+//! `tests/archive` makes it and prints its folder.
+//!
+//! Below, N is the number of a chart's nodes, B the number of its blocks, A the ways of a set.
+
+mod analyse;
+mod analysis;
+mod answer;
+mod check;
+mod class;
+mod limits;
+pub mod raw;
+mod read;
+mod refusal;
+mod total;
+
+pub use analyse::{analyse, Buffers, Settled};
+pub use analysis::Analysis;
+pub use check::{check, Table};
+pub use class::Class;
+pub use limits::{BLOCKS, NODES, PASSES};
+pub use read::{read, Header, Start};
+pub use refusal::Refusal;
+pub use total::{total, Bounds, Costs, Totals};

@@ -1,0 +1,86 @@
+//! The C functions as `include/veilbuzz.h` has them. Nothing checks these declarations against the proved source, so they stand in this
+//! one place, and the tests show of each parameter that it is the one that its name says.
+//!
+//! What a caller has to keep: behind each pointer there are as many elements as the length after it says, a buffer that is written
+//! overlaps no other of the same call, and no pointer is null, also where its length is 0.
+
+/// How many numbers an answer has, and the place of each. One that a function does not have is 0.
+pub const ANSWER_LENGTH: usize = 7;
+/// The refusal's number, 0 for none; also what the function returns.
+pub const NUMBER: usize = 0;
+/// The node at fault for refusals 9, 10, 16 and 17, else 0.
+pub const PLACE: usize = 1;
+/// `veilbuzz_analyse`: the passes made; after 12 the allowance.
+pub const PASSES: usize = 2;
+/// `veilbuzz_read`, `veilbuzz_analyse`: B; also after 12.
+pub const BLOCKS: usize = 3;
+/// `veilbuzz_check`: 1 if the table passes, 0 if not.
+pub const YES: usize = 4;
+/// `veilbuzz_total`: the low total.
+pub const LOW: usize = 5;
+/// `veilbuzz_total`: the high total.
+pub const HIGH: usize = 6;
+
+/// How many numbers a header has: L, S, A, the start code, N and the entry, in this order.
+pub const HEADER_LENGTH: usize = 6;
+
+extern "C" {
+    pub fn veilbuzz_read(
+        chart: *const u8,
+        chart_length: usize,
+        header: *mut u64,
+        header_length: usize,
+        answer: *mut u64,
+        answer_length: usize,
+    ) -> u64;
+
+    pub fn veilbuzz_analyse(
+        chart: *const u8,
+        chart_length: usize,
+        allowance: usize,
+        blocks: *mut u32,
+        blocks_length: usize,
+        must: *mut u8,
+        must_length: usize,
+        may: *mut u8,
+        may_length: usize,
+        marks: *mut u8,
+        marks_length: usize,
+        classes: *mut u8,
+        classes_length: usize,
+        answer: *mut u64,
+        answer_length: usize,
+    ) -> u64;
+
+    pub fn veilbuzz_check(
+        chart: *const u8,
+        chart_length: usize,
+        must: *const u8,
+        must_length: usize,
+        may: *const u8,
+        may_length: usize,
+        marks: *const u8,
+        marks_length: usize,
+        answer: *mut u64,
+        answer_length: usize,
+    ) -> u64;
+
+    pub fn veilbuzz_total(
+        chart: *const u8,
+        chart_length: usize,
+        must: *const u8,
+        must_length: usize,
+        may: *const u8,
+        may_length: usize,
+        marks: *const u8,
+        marks_length: usize,
+        hit: u16,
+        miss: u16,
+        floors: *const u16,
+        floors_length: usize,
+        ceilings: *const u16,
+        ceilings_length: usize,
+        answer: *mut u64,
+        answer_length: usize,
+    ) -> u64;
+}

@@ -1,0 +1,61 @@
+use std::error::Error;
+use std::fmt;
+
+/// A row of document 01's table "When the tool says no". The text of it says what was found and what to do.
+#[derive(Clone, Copy, Debug, PartialEq, Eq)]
+pub struct Refusal {
+    /// 1 to 17.
+    pub number: usize,
+    /// The node at fault for 9, 10, 16 and 17, else 0.
+    pub place: usize,
+    /// The allowance after 12, else 0.
+    pub passes: usize,
+    /// B after 12, else 0.
+    pub blocks: usize,
+}
+
+/// What each number says and what to do, from 1 on.
+const WORDS: [[&str; 2]; 17] = [
+    ["the chart has fewer than 8 bytes", "give the whole file"],
+    ["the edition is not 1", "the first byte has to be 01"],
+    [
+        "L is not 2 to 8, S not 0 to 8, or A not 1 to 8",
+        "look at the cache's shape",
+    ],
+    ["the start code is neither 0 nor 1", "0 is unknown, 1 is empty"],
+    ["N is not 1 to 256", "split the chart, or mend the count"],
+    ["the entry is not below N", "name a node that there is"],
+    ["a spare bit of the header is set", "clear it"],
+    [
+        "the chart is not 8 + 8 N bytes long",
+        "cut it, or add the missing records",
+    ],
+    ["a record breaks its rules", "mend that node's record"],
+    ["the chart has over 64 blocks", "split the chart"],
+    [
+        "a lent buffer is shorter than used",
+        "lend N, B or N * B elements, as the function says",
+    ],
+    ["not settled within the passes allowed", "allow 262401 passes"],
+    ["the table does not pass", "lend the one that the analysis wrote"],
+    ["floors or ceilings are not N long", "one number for each node"],
+    ["the miss cost is below the hit cost", "swap them, if they were swapped"],
+    ["a floor is above its ceiling", "mend that node's two bounds"],
+    [
+        "a floor is above 0 at an unmarked node",
+        "no walk comes there: make it 0",
+    ],
+];
+
+impl fmt::Display for Refusal {
+    fn fmt(&self, text: &mut fmt::Formatter) -> fmt::Result {
+        let Refusal { number, place, .. } = self;
+        write!(text, "refused {number} at {place}")?;
+        match number.checked_sub(1).and_then(|row| WORDS.get(row)) {
+            Some([what, remedy]) => write!(text, ": {what} ({remedy})"),
+            None => Ok(()),
+        }
+    }
+}
+
+impl Error for Refusal {}

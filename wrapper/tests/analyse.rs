@@ -1,0 +1,106 @@
+//! `analyse`: each buffer gets its own part, each length counts, and so does the allowance.
+
+mod lent;
+
+use lent::{chart, Lent, AGES, BLOCKS, NODES};
+use veilbuzz::{analyse, Analysis, Class, Refusal, Settled, PASSES};
+
+fn refusal(number: usize, passes: usize, blocks: usize) -> Result<Settled, Refusal> {
+    Err(Refusal {
+        number,
+        place: 0,
+        passes,
+        blocks,
+    })
+}
+
+/// Analyses into buffers after a change of these. The answer, and what they hold then.
+fn after(change: impl Fn(&mut Lent)) -> (Result<Settled, Refusal>, Lent) {
+    let mut lent = Lent::fresh();
+    change(&mut lent);
+    (analyse(&chart(), PASSES, lent.buffers()), lent)
+}
+
+#[test]
+fn each_buffer_gets_its_own_part_and_keeps_its_tail() {
+    let (answer, lent) = after(|_| ());
+    assert_eq!(answer, Ok(Settled { passes: 2, blocks: 3 }));
+    assert_eq!(lent, Lent::settled());
+}
+
+#[test]
+fn each_buffer_has_its_own_length() {
+    let shortened: [fn(&mut Lent); 5] = [
+        |lent| lent.blocks.truncate(BLOCKS - 1),
+        |lent| lent.must.truncate(AGES - 1),
+        |lent| lent.may.truncate(AGES - 1),
+        |lent| lent.marks.truncate(NODES - 1),
+        |lent| lent.classes.truncate(NODES - 1),
+    ];
+    for shorten in shortened {
+        let mut before = Lent::fresh();
+        shorten(&mut before);
+        assert_eq!(after(shorten), (refusal(11, 0, 0), before));
+    }
+    let exact = |lent: &mut Lent| {
+        lent.blocks.truncate(BLOCKS);
+        lent.must.truncate(AGES);
+        lent.may.truncate(AGES);
+        lent.marks.truncate(NODES);
+        lent.classes.truncate(NODES);
+    };
+    let mut settled = Lent::settled();
+    exact(&mut settled);
+    assert_eq!(after(exact), (Ok(Settled { passes: 2, blocks: 3 }), settled));
+}
+
+#[test]
+fn the_allowance_counts() {
+    let mut lent = Lent::fresh();
+    assert_eq!(analyse(&chart(), 1, lent.buffers()), refusal(12, 1, 3));
+    let mut unsettled = Lent::settled();
+    unsettled.must[..AGES].fill(0);
+    unsettled.may[..AGES].fill(0);
+    unsettled.marks[..NODES].fill(0);
+    unsettled.classes[..NODES].fill(0);
+    assert_eq!(lent, unsettled);
+    assert_eq!(
+        analyse(&chart(), 2, lent.buffers()),
+        Ok(Settled { passes: 2, blocks: 3 })
+    );
+    assert_eq!(lent, Lent::settled());
+}
+
+#[test]
+fn a_refused_chart_changes_nothing() {
+    let mut bytes = chart();
+    bytes[8 + 8 * 2 + 7] |= 1;
+    let mut lent = Lent::fresh();
+    let refused = Refusal {
+        number: 9,
+        place: 2,
+        passes: 0,
+        blocks: 0,
+    };
+    assert_eq!(analyse(&bytes, PASSES, lent.buffers()), Err(refused));
+    assert_eq!(lent, Lent::fresh());
+}
+
+#[test]
+fn an_analysis_with_buffers_of_its_own_has_the_same() {
+    let analysis = Analysis::of(&chart()).expect("the chart is accepted");
+    let Lent { must, may, marks, .. } = Lent::settled();
+    let table = analysis.table();
+    assert_eq!((analysis.passes, &analysis.blocks[..]), (2, &[0, 1, 2][..]));
+    assert_eq!(
+        (table.must, table.may, table.marks),
+        (&must[..AGES], &may[..AGES], &marks[..NODES])
+    );
+    assert_eq!((analysis.must(1), analysis.may(1)), (&[0, 2, 2][..], &[0, 1, 1][..]));
+    assert_eq!(
+        analysis.classes,
+        [Class::Unsure, Class::Unsure, Class::Hit, Class::Unreached]
+    );
+    assert_eq!((analysis.header.nodes, analysis.header.blocks), (NODES, BLOCKS));
+    assert_eq!(Analysis::of(&chart()[..7]).map_err(|refused| refused.number), Err(1));
+}

@@ -1,0 +1,52 @@
+//! What a refusal and a class say.
+
+use veilbuzz::{Class, Refusal};
+
+fn refusal(number: usize, place: usize) -> String {
+    let refusal = Refusal {
+        number,
+        place,
+        passes: 0,
+        blocks: 0,
+    };
+    refusal.to_string()
+}
+
+#[test]
+fn a_refusal_says_its_number_its_place_what_was_found_and_what_to_do() {
+    assert_eq!(
+        refusal(9, 2),
+        "refused 9 at 2: a record breaks its rules (mend that node's record)"
+    );
+    assert_eq!(
+        refusal(1, 0),
+        "refused 1 at 0: the chart has fewer than 8 bytes (give the whole file)"
+    );
+    assert_eq!(
+        refusal(17, 5),
+        "refused 17 at 5: a floor is above 0 at an unmarked node (no walk comes there: make it 0)"
+    );
+}
+
+#[test]
+fn each_refusal_has_words_of_its_own() {
+    let mut words: Vec<String> = (1..=17)
+        .map(|number| {
+            let text = refusal(number, 0);
+            let (_, words) = text.split_once(": ").expect("there are words");
+            words.into()
+        })
+        .collect();
+    words.sort();
+    words.dedup();
+    assert_eq!(words.len(), 17);
+}
+
+#[test]
+fn the_words_of_classes_are_those_of_the_report() {
+    let words: Vec<String> = (0..=4)
+        .map(|number| Class::of(number).expect("a class").to_string())
+        .collect();
+    assert_eq!(words, ["unreached", "hit", "miss", "unsure", "none"]);
+    assert_eq!(Class::of(5), None);
+}

@@ -6,6 +6,7 @@ mod chart;
 mod header;
 mod pack;
 pub mod random;
+pub mod random_blocks;
 pub mod random_charts;
 mod record;
 

@@ -19,6 +19,11 @@ pub fn whole(random: &mut Random) -> Chart {
         2 => random.within(60, 140),
         _ => random.within(250, 256),
     };
+    of_nodes(random, nodes)
+}
+
+/// A chart of so many nodes with no fault but perhaps a block too many.
+pub fn of_nodes(random: &mut Random, nodes: u64) -> Chart {
     let course = match random.below(3) {
         0 => Course::Any,
         1 => Course::Onward,

@@ -3,8 +3,9 @@
 use std::env;
 use std::ffi::OsString;
 use std::io::Write;
+use std::os::unix::process::ExitStatusExt;
 use std::path::{Path, PathBuf};
-use std::process::{Child, Command, Stdio};
+use std::process::{Child, Command, ExitStatus, Stdio};
 use std::thread;
 use std::time::{Duration, Instant};
 
@@ -80,11 +81,20 @@ pub fn answer(command: Command, input: &[u8]) -> String {
     finish(child)
 }
 
-/// Whether a started program ends within ten seconds; one that does not is ended.
+/// The signal that ends a program whose output nobody reads.
+const BROKEN_PIPE: i32 = 13;
+
+/// Whether a status is none of a crash, nor the one by which valgrind tells that it has found something.
+fn peaceful(status: ExitStatus) -> bool {
+    status.success() || status.signal() == Some(BROKEN_PIPE)
+}
+
+/// Whether a started program ends in peace within ten seconds; one that does not end is ended.
 pub fn ends(child: &mut Child) -> bool {
     let last = Instant::now() + Duration::from_secs(10);
     while Instant::now() < last {
-        if !runs(child) {
+        if let Some(status) = child.try_wait().expect("the program can be asked") {
+            assert!(peaceful(status), "the program ended with {status}");
             return true;
         }
         thread::sleep(Duration::from_millis(5));

@@ -1,84 +1,101 @@
-//! The charts of the folder charts/: document 01's, byte for byte, and what the program says of them.
+//! The charts of the folder charts/: each with its source and its report, all of them told in its README, and document 01's among them.
 
 use charts::Chart;
-use reports::hold::says;
-use reports::program::file;
-use std::collections::BTreeMap;
-use std::fs;
+use reports::each::each;
+use reports::folder::{chart, names, report, rows, text, words};
+use reports::hold::agrees;
+use reports::program::run;
 
-/// Three reads in a row, as document 01's soundings have them, and the classes it gives.
-fn straight(addresses: [u64; 3], sets: u64, ways: u64, start: u64, words: [&str; 3]) -> (Chart, String) {
-    let [first, second, third] = words;
-    (
-        Chart::straight(&addresses).shaped(sets, ways, start),
-        format!("nodes 3 blocks 2 passes 2\n0 {first}\n1 {second}\n2 {third}"),
-    )
-}
-
-/// The charts by name, with the report expected of each.
-fn charts() -> BTreeMap<String, (Chart, String)> {
-    let near = [0x00, 0x10, 0x00];
-    let far = [0x00, 0x20, 0x00];
-    let sample = "nodes 3 blocks 1 passes 2\n0 none\n1 unsure\n2 hit";
+/// Document 01's charts by name.
+fn of_document_01() -> [(&'static str, Chart); 6] {
+    let near = || Chart::straight(&[0x00, 0x10, 0x00]);
+    let far = || Chart::straight(&[0x00, 0x20, 0x00]);
     [
-        ("loop", (Chart::sample(), sample.to_string())),
-        (
-            "straight-00-10-00-one-set-two-ways-unknown",
-            straight(near, 0, 2, 0, ["unsure", "unsure", "hit"]),
-        ),
-        (
-            "straight-00-10-00-one-set-two-ways-empty",
-            straight(near, 0, 2, 1, ["miss", "miss", "hit"]),
-        ),
-        (
-            "straight-00-10-00-one-set-one-way-unknown",
-            straight(near, 0, 1, 0, ["unsure", "miss", "miss"]),
-        ),
-        (
-            "straight-00-20-00-one-set-two-ways-unknown",
-            straight(far, 0, 2, 0, ["unsure", "unsure", "hit"]),
-        ),
-        (
-            "straight-00-20-00-two-sets-one-way-unknown",
-            straight(far, 1, 1, 0, ["unsure", "miss", "miss"]),
-        ),
+        ("loop", Chart::sample()),
+        ("straight-00-10-00-one-set-two-ways-unknown", near().shaped(0, 2, 0)),
+        ("straight-00-10-00-one-set-two-ways-empty", near().shaped(0, 2, 1)),
+        ("straight-00-10-00-one-set-one-way-unknown", near().shaped(0, 1, 0)),
+        ("straight-00-20-00-one-set-two-ways-unknown", far().shaped(0, 2, 0)),
+        ("straight-00-20-00-two-sets-one-way-unknown", far().shaped(1, 1, 0)),
     ]
-    .into_iter()
-    .map(|(name, expected)| (format!("{name}.chart"), expected))
-    .collect()
+}
+
+/// What document 01 says of them, node by node.
+const SAID: [[&str; 3]; 6] = [
+    ["none", "unsure", "hit"],
+    ["unsure", "unsure", "hit"],
+    ["miss", "miss", "hit"],
+    ["unsure", "miss", "miss"],
+    ["unsure", "unsure", "hit"],
+    ["unsure", "miss", "miss"],
+];
+
+#[test]
+fn each_chart_has_a_source_and_a_report_and_none_is_left_over() {
+    let charts = names(".chart");
+    assert!(charts.len() >= 12, "there are {} charts", charts.len());
+    assert_eq!(charts, names(".hex"));
+    assert_eq!(charts, names(".report"));
 }
 
 #[test]
-fn the_folder_has_these_charts_and_no_other() {
-    let mut names: Vec<String> = fs::read_dir(file("charts"))
-        .expect("the folder charts/ is there")
-        .map(|entry| {
-            entry
-                .expect("it can be listed")
-                .file_name()
-                .into_string()
-                .expect("its names are ASCII")
-        })
-        .filter(|name| name.ends_with(".chart"))
+fn the_program_prints_each_report_byte_for_byte() {
+    each(&names(".chart"), |name| {
+        assert_eq!(run(&chart(name)), report(name), "{name}")
+    });
+}
+
+#[test]
+fn the_second_program_agrees_on_each_chart() {
+    each(&names(".chart"), |name| agrees(&chart(name)));
+}
+
+#[test]
+fn the_readme_names_each_chart_and_no_other() {
+    let mut told: Vec<String> = rows(|first| first.starts_with('`'))
+        .iter()
+        .map(|row| row[0].trim_matches('`').to_string())
         .collect();
-    names.sort();
-    assert_eq!(names, charts().into_keys().collect::<Vec<String>>());
+    told.sort();
+    assert_eq!(told, names(".chart"));
 }
 
 #[test]
-fn each_chart_has_the_bytes_that_its_name_says() {
-    for (name, (chart, _)) in charts() {
-        let bytes = fs::read(file("charts").join(&name)).expect("the chart can be read");
-        assert_eq!(bytes, chart.bytes(), "{name}");
+fn the_readme_tells_each_report() {
+    for row in rows(|first| first.starts_with('`')) {
+        let name = row[0].trim_matches('`');
+        let told = row.last().expect("a row has cells");
+        let expected = match name {
+            // winch.rs holds the page to these two
+            "winch-as-built" | "winch-swapped" => "below".to_string(),
+            _ => words(&report(name)).join(", "),
+        };
+        assert_eq!(*told, expected, "{name}");
     }
 }
 
 #[test]
-fn the_program_reports_each_chart_as_document_01_does() {
-    for (name, (_, report)) in charts() {
-        says(
-            &fs::read(file("charts").join(&name)).expect("the chart can be read"),
-            &report,
-        );
+fn the_front_page_shows_the_samples_report() {
+    let shown: String = report("loop").lines().map(|line| format!("    {line}\n")).collect();
+    let page = text("../README.md");
+    assert!(page.contains(&format!("    $ ./report charts/loop.chart\n{shown}\n")));
+}
+
+#[test]
+fn there_is_a_chart_for_each_word() {
+    for word in ["hit", "miss", "unsure", "unreached", "none"] {
+        let report = report(&format!("class-{word}"));
+        assert!(words(&report).contains(&word), "class-{word}: {report}");
+    }
+}
+
+#[test]
+fn document_01s_charts_have_its_bytes_and_its_classes() {
+    for ((name, expected), said) in of_document_01().into_iter().zip(SAID) {
+        let [first, second, third] = said;
+        let blocks = if name == "loop" { 1 } else { 2 };
+        let whole = format!("nodes 3 blocks {blocks} passes 2\n0 {first}\n1 {second}\n2 {third}\n");
+        assert_eq!(chart(name), expected.bytes(), "{name}");
+        assert_eq!(report(name), whole, "{name}");
     }
 }

@@ -11,10 +11,10 @@ use std::env;
 /// runs under the kit's emulator, and a few seconds where it needs none.
 const CHARTS: u64 = 2_000;
 
-/// The first seed. Another one: REPORTS_SEED=7 cargo test --test random.
+/// The first seed. Another one: VEILBUZZ_SEED=7 cargo test --manifest-path tests/Cargo.toml -p reports --test random.
 fn first_seed() -> u64 {
-    match env::var("REPORTS_SEED") {
-        Ok(text) => text.parse().expect("REPORTS_SEED is a number"),
+    match env::var("VEILBUZZ_SEED") {
+        Ok(text) => text.parse().expect("VEILBUZZ_SEED is a number"),
         Err(_) => 20_250_101,
     }
 }
@@ -37,7 +37,7 @@ impl Drop for Seed {
     fn drop(&mut self) {
         if std::thread::panicking() {
             eprintln!(
-                "the seed at fault is {0}: REPORTS_SEED={0} has it again, as its first chart",
+                "the seed at fault is {0}: VEILBUZZ_SEED={0} has it again, as its first chart",
                 self.0
             );
         }

@@ -119,7 +119,7 @@ fn short_buffers_are_refusal_11_after_the_chart() {
 
 /// "Tightest": no table that is tighter anywhere passes.
 #[test]
-fn the_analysis_of_a_random_chart_passes_and_nothing_tighter_does() {
+fn the_analysis_of_a_random_chart_passes_and_no_single_age_can_be_tighter() {
     let mut tried = 0;
     for seed in 0..400 {
         let mut random = Random::new(seed);

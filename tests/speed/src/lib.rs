@@ -2,4 +2,7 @@
 
 pub mod boundary;
 pub mod kinds;
+pub mod measures;
+pub mod plot;
+pub mod runs;
 pub mod timing;

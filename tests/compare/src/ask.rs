@@ -1,0 +1,96 @@
+//! The four functions, asked of the archive through the wrapper and of the second program: their answers, and all that was lent.
+
+use crate::expected;
+use crate::guarded::Guarded;
+use crate::lent::Lent;
+use crate::same::{same, Held};
+use crate::table::LentTable;
+use crate::tally::{Tally, ANSWER};
+use veilbuzz::{Bounds, Costs, Header, Refusal, Settled, Totals};
+
+/// Counts an answer of a function by the number of its refusal, 0 for none.
+fn counted<T>(tally: &mut Tally, function: &'static str, answer: &Result<T, Refusal>) {
+    tally.add(ANSWER);
+    tally.at(function, answer.as_ref().err().map_or(0, |refusal| refusal.number));
+}
+
+/// How the answers of each function are counted.
+pub const READ: &str = "read, refusal";
+pub const ANALYSE: &str = "analyse, refusal";
+pub const CHECK: &str = "check, refusal";
+pub const TOTAL: &str = "total, refusal";
+
+pub fn read(tally: &mut Tally, chart: &[u8]) -> Held<Result<Header, Refusal>> {
+    let answer = veilbuzz::read(chart);
+    same("read", &answer, &expected::read(chart))?;
+    counted(tally, READ, &answer);
+    Ok(answer)
+}
+
+/// Analyses into copies of what is lent. The answer, and what the archive has left in its copy.
+pub fn analyse(
+    tally: &mut Tally,
+    chart: &[u8],
+    allowance: usize,
+    lent: &Lent,
+) -> Held<(Result<Settled, Refusal>, Lent)> {
+    let (mut ours, mut second) = (lent.clone(), lent.clone());
+    let answer = veilbuzz::analyse(chart, allowance, ours.to_archive());
+    let other = expected::analyse(chart, allowance, &mut second);
+    same("analyse", &answer, &other)
+        .and_then(|()| ours.same(&second))
+        .map_err(|words| format!("{words}, with allowance {allowance}"))?;
+    counted(tally, ANALYSE, &answer);
+    Ok((answer, ours))
+}
+
+pub fn check(tally: &mut Tally, chart: &[u8], table: &LentTable) -> Held<Result<bool, Refusal>> {
+    let before = table.clone();
+    let answer = veilbuzz::check(chart, table.to_archive());
+    same("check", &answer, &expected::check(chart, &before))
+        .and_then(|()| table.same(&before))
+        .map_err(|words| format!("{words}, of {:?}", before.to_archive()))?;
+    counted(tally, CHECK, &answer);
+    Ok(answer)
+}
+
+/// The floors and the ceilings that are lent.
+#[derive(Clone)]
+pub struct LentBounds {
+    pub floors: Guarded<u16>,
+    pub ceilings: Guarded<u16>,
+}
+
+impl LentBounds {
+    pub fn bounds(&self) -> Bounds<'_> {
+        Bounds {
+            floors: self.floors.lent(),
+            ceilings: self.ceilings.lent(),
+        }
+    }
+
+    fn same(&self, before: &LentBounds) -> Held {
+        self.floors.same("floors, which are only read,", &before.floors)?;
+        self.ceilings.same("ceilings, which are only read,", &before.ceilings)
+    }
+}
+
+pub fn total(
+    tally: &mut Tally,
+    chart: &[u8],
+    table: &LentTable,
+    costs: Costs,
+    bounds: &LentBounds,
+) -> Held<Result<Totals, Refusal>> {
+    let before = (table.clone(), bounds.clone());
+    let answer = veilbuzz::total(chart, table.to_archive(), costs, bounds.bounds());
+    same("total", &answer, &expected::total(chart, table, costs, bounds.bounds()))
+        .and_then(|()| table.same(&before.0))
+        .and_then(|()| bounds.same(&before.1))
+        .map_err(|words| {
+            let (table, bounds) = (before.0.to_archive(), before.1.bounds());
+            format!("{words}, of {table:?}, {costs:?}, {bounds:?}")
+        })?;
+    counted(tally, TOTAL, &answer);
+    Ok(answer)
+}

@@ -1,0 +1,68 @@
+//! What random charts, allowances and lengths are like.
+
+use crate::lent::{Lengths, NAMES};
+use crate::tally::Tally;
+use charts::random::Random;
+use charts::random_charts::{damaged, of_nodes};
+
+/// A chart, whole or damaged. Small ones are quick and have most of what can go wrong; few are large.
+pub fn chart(random: &mut Random) -> Vec<u8> {
+    let nodes = match random.below(200) {
+        0..=139 => random.within(1, 8),
+        140..=185 => random.within(9, 24),
+        186..=195 => random.within(25, 80),
+        _ => random.within(81, 256),
+    };
+    let chart = of_nodes(random, nodes);
+    if random.once_in(3) {
+        return damaged(random, chart);
+    }
+    chart.bytes()
+}
+
+/// How allowances and lengths are counted: by the number of their kind.
+pub const ALLOWANCE: &str = "allowance";
+pub const ALLOWANCES: usize = 8;
+pub const LENGTHS: [&str; 5] = [
+    "length of blocks",
+    "length of must",
+    "length of may",
+    "length of marks",
+    "length of classes",
+];
+
+/// Of so many passes: none, one, one too few, just enough, one more, enough for any chart, one that 32 bits do not hold, the most.
+pub fn allowance(random: &mut Random, tally: &mut Tally, passes: usize) -> usize {
+    let kind = random.below(ALLOWANCES as u64) as usize;
+    tally.at(ALLOWANCE, kind);
+    [
+        0,
+        1,
+        passes - 1,
+        passes,
+        passes + 1,
+        veilbuzz::PASSES,
+        1 << 32,
+        usize::MAX,
+    ][kind]
+}
+
+/// Lengths around the used ones: none, one too few, just enough, one more, many more. Most are enough.
+pub fn lengths(random: &mut Random, tally: &mut Tally, used: Lengths) -> Lengths {
+    let mut lengths = used;
+    for part in 0..NAMES.len() {
+        let kind = match random.below(16) {
+            0 => 0,
+            1 => 1,
+            2..=7 => 2,
+            8..=11 => 3,
+            _ => 4,
+        };
+        let (used, more) = (used[part], random.within(2, 90) as usize);
+        lengths[part] = [0, used.saturating_sub(1), used, used + 1, used + more][kind];
+        if used > 1 {
+            tally.at(LENGTHS[part], kind);
+        }
+    }
+    lengths
+}

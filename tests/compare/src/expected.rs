@@ -1,0 +1,69 @@
+//! The second program's answers in the wrapper's words.
+
+use crate::lent::Lent;
+use crate::table::LentTable;
+use second::analysis::{self, Analysed};
+use second::cache;
+use second::chart::Chart;
+use second::checker;
+use second::header;
+use second::totals;
+use veilbuzz::{Bounds, Costs, Header, Refusal, Settled, Start, Totals};
+
+fn refusal(refusal: second::refusal::Refusal) -> Refusal {
+    Refusal {
+        number: refusal.number,
+        place: refusal.place,
+        passes: 0,
+        blocks: 0,
+    }
+}
+
+pub fn read(bytes: &[u8]) -> Result<Header, Refusal> {
+    let chart = Chart::read(bytes).map_err(refusal)?;
+    Ok(Header {
+        line: chart.header.geometry.line as usize,
+        sets: chart.header.geometry.sets as usize,
+        ways: chart.header.geometry.ways.into(),
+        start: match chart.header.start {
+            header::Start::Unknown => Start::Unknown,
+            header::Start::Empty => Start::Empty,
+        },
+        nodes: chart.header.nodes,
+        entry: chart.header.entry,
+        blocks: chart.blocks.len(),
+    })
+}
+
+pub fn analyse(bytes: &[u8], allowance: usize, lent: &mut Lent) -> Result<Settled, Refusal> {
+    match analysis::analyse(bytes, allowance, lent.to_second()) {
+        Analysed::Settled { passes, blocks } => Ok(Settled { passes, blocks }),
+        Analysed::Unsettled { allowance, blocks } => Err(Refusal {
+            number: 12,
+            place: 0,
+            passes: allowance,
+            blocks,
+        }),
+        Analysed::Refused(refused) => Err(refusal(refused)),
+    }
+}
+
+pub fn check(bytes: &[u8], table: &LentTable) -> Result<bool, Refusal> {
+    checker::check(bytes, table.to_second()).map_err(refusal)
+}
+
+pub fn total(bytes: &[u8], table: &LentTable, costs: Costs, bounds: Bounds) -> Result<Totals, Refusal> {
+    let costs = cache::Costs {
+        hit: costs.hit,
+        miss: costs.miss,
+    };
+    let bounds = totals::Bounds {
+        floors: bounds.floors,
+        ceilings: bounds.ceilings,
+    };
+    let totals = totals::totals(bytes, table.to_second(), costs, bounds).map_err(refusal)?;
+    Ok(Totals {
+        low: totals.low,
+        high: totals.high,
+    })
+}

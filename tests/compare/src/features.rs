@@ -1,0 +1,69 @@
+//! What an accepted chart has, counted.
+
+use crate::tally::Tally;
+use second::chart::Chart;
+use second::header::Start;
+use veilbuzz::Settled;
+
+pub const NODES: &str = "nodes";
+pub const BLOCKS: &str = "blocks";
+pub const PASSES: &str = "passes";
+pub const CLASS: &str = "class";
+pub const GEOMETRY: &str = "geometry and start";
+
+/// The numbers of all shapes of a cache with both starts run from 0 to this, without it: 7 of L, 9 of S, 8 of A.
+pub const GEOMETRIES: usize = 7 * 9 * 8 * 2;
+
+/// What arrows and nodes may be like.
+pub const LIKE: [&str; 9] = [
+    "a self loop",
+    "a self loop as the first of two arrows",
+    "an arrow into the entry",
+    "two arrows to one node",
+    "a node without arrows",
+    "an entry that is not node 0",
+    "bare steps alone",
+    "a write",
+    "an unreached node",
+];
+
+fn geometry(chart: &Chart) -> usize {
+    let shape = chart.header.geometry;
+    let (line, sets, ways) = (
+        shape.line as usize - 2,
+        shape.sets as usize,
+        usize::from(shape.ways) - 1,
+    );
+    let start = usize::from(chart.header.start == Start::Empty);
+    ((line * 9 + sets) * 8 + ways) * 2 + start
+}
+
+/// Counts what a settled chart has, and the classes that it was given.
+pub fn count(tally: &mut Tally, bytes: &[u8], chart: &Chart, settled: Settled, classes: &[u8]) {
+    tally.at(NODES, chart.nodes.len());
+    tally.at(BLOCKS, chart.blocks.len());
+    tally.at(PASSES, settled.passes);
+    tally.at(GEOMETRY, geometry(chart));
+    let targets = |node: usize| chart.nodes[node].arrows.targets();
+    let any = |like: &dyn Fn(usize) -> bool| (0..chart.nodes.len()).any(like);
+    let entry = chart.header.entry;
+    let has = [
+        any(&|node| targets(node).contains(&node)),
+        any(&|node| targets(node).len() == 2 && targets(node)[0] == node),
+        any(&|node| targets(node).contains(&entry)),
+        any(&|node| targets(node).len() == 2 && targets(node)[0] == targets(node)[1]),
+        any(&|node| targets(node).is_empty()),
+        entry != 0,
+        chart.blocks.is_empty(),
+        any(&|node| bytes[8 + 8 * node] >> 6 == 2),
+        classes.contains(&0),
+    ];
+    for (has, like) in has.into_iter().zip(LIKE) {
+        tally.add_if(has, like);
+    }
+    for class in 0..=4 {
+        if classes.contains(&class) {
+            tally.at(CLASS, class.into());
+        }
+    }
+}

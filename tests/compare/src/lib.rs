@@ -1,0 +1,24 @@
+//! The archive of the proved functions and the second program in one process: the same charts, the same buffers, and every answer and
+//! every lent byte compared.
+//!
+//! A difference is told with the seed, the chart's number, its bytes, and the command that has it again.
+
+pub mod ask;
+pub mod bounds;
+pub mod draw;
+pub mod expected;
+pub mod features;
+pub mod group;
+pub mod guarded;
+pub mod lent;
+pub mod raw;
+pub mod run;
+pub mod same;
+pub mod settings;
+pub mod shown;
+pub mod table;
+pub mod tables;
+pub mod tally;
+pub mod trial;
+pub mod walks;
+pub mod watch;

@@ -1,0 +1,157 @@
+//! Random walks through the plain cache, held to the archive's classes, ages and totals.
+
+use crate::ask::{self, LentBounds};
+use crate::bounds::{costs, Question};
+use crate::lent::Lent;
+use crate::same::{holds, Held};
+use crate::table::{LentTable, Table};
+use crate::tally::Tally;
+use charts::random::Random;
+use second::cache::Cache;
+use second::chart::Chart;
+use second::header::Start;
+use veilbuzz::{Costs, Totals};
+
+/// How what walks meet is counted: nodes by their class, walks by whether all their references are sure.
+pub const MET: &str = "a walk meets class";
+pub const SURE: &str = "a walk without an unsure reference";
+pub const WALK: &str = "a walk from start";
+
+/// A cache as a walk may find it: empty, or with any blocks, also some that the chart does not have.
+fn found(random: &mut Random, chart: &Chart) -> Cache {
+    let mut cache = Cache::empty(chart.header.geometry);
+    if chart.header.start == Start::Unknown {
+        for _ in 0..random.below(40) {
+            let block = match chart.blocks.len() {
+                0 => random.below(1 << 24) as u32,
+                _ if random.once_in(3) => random.below(1 << 24) as u32,
+                blocks => chart.blocks[random.below(blocks as u64) as usize],
+            };
+            cache.touch(block);
+        }
+    }
+    cache
+}
+
+/// A random walk.
+fn walk(random: &mut Random, chart: &Chart) -> Vec<usize> {
+    let most = if random.once_in(20) { 400 } else { 30 };
+    let mut nodes = vec![chart.header.entry];
+    while nodes.len() < most {
+        let targets = chart.nodes[nodes[nodes.len() - 1]].arrows.targets();
+        if targets.is_empty() {
+            break;
+        }
+        nodes.push(targets[random.below(targets.len() as u64) as usize]);
+    }
+    nodes
+}
+
+/// Walks on what the archive's analysis has written. What the walk costs, and whether all its references are sure.
+fn pay(
+    tally: &mut Tally,
+    chart: &Chart,
+    ours: &Lent,
+    mut cache: Cache,
+    costs: Costs,
+    walk: &[usize],
+) -> Held<(u64, bool)> {
+    let (mut paid, mut sure) = (0, true);
+    for &node in walk {
+        holds(ours.marks.lent()[node] == 1, || {
+            format!("a walk comes to {node}, which is not marked")
+        })?;
+        for (column, &block) in chart.blocks.iter().enumerate() {
+            let cell = node * chart.blocks.len() + column;
+            let (may, age, must) = (ours.may.lent()[cell], cache.age(block), ours.must.lent()[cell]);
+            holds(may <= age && age <= must, || {
+                format!("at node {node} block {block} has age {age}, and may {may} and must {must}")
+            })?;
+        }
+        let class = ours.classes.lent()[node];
+        paid += match (cache.visit(chart, node), class) {
+            (None, 4) => 0,
+            (Some(true), 1 | 3) => u64::from(costs.hit),
+            (Some(false), 2 | 3) => u64::from(costs.miss),
+            (hit, class) => return Err(format!("at node {node} of class {class} a walk finds {hit:?}")),
+        };
+        sure &= class != 3;
+        tally.at(MET, class.into());
+    }
+    Ok((paid, sure))
+}
+
+/// Floors and ceilings that a walk keeps: its own visits, or around them.
+fn around(random: &mut Random, visits: &[u16]) -> LentBounds {
+    let mut question = Question {
+        costs: Costs { hit: 0, miss: 0 },
+        floors: visits.to_vec(),
+        ceilings: visits.to_vec(),
+    };
+    for (floor, ceiling) in question.floors.iter_mut().zip(&mut question.ceilings) {
+        if random.once_in(2) {
+            *floor = random.within(0, (*floor).into()) as u16;
+        }
+        match random.below(6) {
+            0 => *ceiling = random.within((*ceiling).into(), 65_535) as u16,
+            1 | 2 => *ceiling += random.below(4) as u16,
+            _ => {}
+        }
+    }
+    question.lent(random)
+}
+
+/// The archive's totals under a table and bounds that a walk keeps. What it paid lies between them.
+fn between(
+    tally: &mut Tally,
+    bytes: &[u8],
+    table: &LentTable,
+    costs: Costs,
+    bounds: &LentBounds,
+    paid: u64,
+) -> Held<Totals> {
+    let totals =
+        ask::total(tally, bytes, table, costs, bounds)?.map_err(|refusal| format!("a walk's totals: {refusal}"))?;
+    holds(totals.low <= paid && paid <= totals.high, || {
+        format!(
+            "a walk costs {paid}, and has {totals:?} with {costs:?} and {:?}",
+            bounds.bounds()
+        )
+    })?;
+    Ok(totals)
+}
+
+/// Walks once, and holds the cost to the totals under tables that pass, of which the first is the archive's own.
+pub fn hold(
+    random: &mut Random,
+    tally: &mut Tally,
+    bytes: &[u8],
+    chart: &Chart,
+    ours: &Lent,
+    tables: &[Table],
+) -> Held {
+    let costs = costs(random);
+    let walk = walk(random, chart);
+    let cache = found(random, chart);
+    let (paid, sure) = pay(tally, chart, ours, cache, costs, &walk)?;
+    tally.at(WALK, (chart.header.start == Start::Empty).into());
+    tally.add_if(sure && paid > 0, SURE);
+    let mut visits = vec![0; chart.nodes.len()];
+    for &node in &walk {
+        visits[node] += 1;
+    }
+    let own = Question {
+        costs,
+        floors: visits.clone(),
+        ceilings: visits.clone(),
+    };
+    for (number, table) in tables.iter().enumerate() {
+        let table = LentTable::of(random, table);
+        let totals = between(tally, bytes, &table, costs, &own.lent(random), paid)?;
+        holds(number > 0 || !sure || totals.low == totals.high, || {
+            format!("a sure walk costs {paid}, and has {totals:?} with {own:?}")
+        })?;
+        between(tally, bytes, &table, costs, &around(random, &visits), paid)?;
+    }
+    Ok(())
+}

@@ -1,0 +1,85 @@
+//! Several faults at once: which of them is named.
+
+use charts::{Chart, Record};
+use compare::ask::READ;
+use compare::group::Group;
+
+/// A chart in the making: its fields, and what is done to its bytes at the end.
+#[derive(Clone)]
+struct Draft {
+    chart: Chart,
+    cut: usize,
+    more: usize,
+}
+
+impl Draft {
+    fn bytes(&self) -> Vec<u8> {
+        let mut bytes = self.chart.bytes();
+        bytes.truncate(bytes.len().saturating_sub(self.cut));
+        bytes.resize(bytes.len() + self.more, 0);
+        bytes
+    }
+}
+
+/// Puts a fault into a draft.
+type Fault = fn(&mut Draft);
+
+const FAULTS: [Fault; 22] = [
+    |draft| draft.cut = draft.chart.bytes().len(),
+    |draft| draft.cut = draft.chart.bytes().len() - 7,
+    |draft| draft.chart.header.edition = 0,
+    |draft| draft.chart.header.edition = 2,
+    |draft| draft.chart.header.line = 1,
+    |draft| draft.chart.header.sets = 9,
+    |draft| draft.chart.header.ways = 0,
+    |draft| draft.chart.header.ways = 9,
+    |draft| draft.chart.header.start = 2,
+    |draft| draft.chart.header.nodes = 0,
+    |draft| draft.chart.header.nodes = 257,
+    |draft| draft.chart.header.entry = draft.chart.header.nodes,
+    |draft| draft.chart.header.spare = 1,
+    |draft| draft.chart.header.tail = 0x80,
+    |draft| draft.cut += 1,
+    |draft| draft.more += 8,
+    |draft| draft.chart.records[0].spare = 1,
+    |draft| draft.chart.records[3].kind = 3,
+    |draft| draft.chart.records[5].outs = 3,
+    |draft| draft.chart.records[70].first = draft.chart.header.nodes,
+    |draft| reads(draft, 65),
+    |draft| reads(draft, 70),
+];
+
+/// Has the first nodes read a block each.
+fn reads(draft: &mut Draft, blocks: u64) {
+    for block in 0..blocks {
+        let record = &mut draft.chart.records[block as usize];
+        (record.kind, record.address) = (1, block << 8);
+    }
+}
+
+/// 72 nodes, each a bare step that leads to the next.
+fn sound() -> Draft {
+    let records = (0..72).map(|node| Record::step().to((node + 1) % 72)).collect();
+    Draft {
+        chart: Chart::of(records),
+        cut: 0,
+        more: 0,
+    }
+}
+
+#[test]
+fn one_two_or_three_faults_at_once() {
+    let mut group = Group::of("faults at once");
+    for one in 0..FAULTS.len() {
+        for two in 0..=one {
+            for three in 0..=two {
+                let mut draft = sound();
+                for fault in [three, two, one] {
+                    FAULTS[fault](&mut draft);
+                }
+                group.trial(&draft.bytes());
+            }
+        }
+    }
+    group.end().expect_each(READ, 1..=10, 3);
+}

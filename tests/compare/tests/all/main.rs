@@ -1,0 +1,16 @@
+//! Charts that are listed (every value of every small field, both sides of every boundary, every count), and charts that
+//! are drawn. All in one program, since that is linked but once.
+
+mod allowances;
+mod buffers;
+mod counts;
+mod faults;
+mod header;
+mod huge;
+mod lengths;
+mod limits;
+mod overlapping;
+mod random;
+mod records;
+mod tables;
+mod totals;

@@ -1,0 +1,75 @@
+//! Random charts, whole and damaged, through everything.
+
+use compare::ask::{ANALYSE, CHECK, READ, TOTAL};
+use compare::draw::{ALLOWANCE, ALLOWANCES, LENGTHS};
+use compare::features::{CLASS, GEOMETRIES, GEOMETRY, LIKE, PASSES};
+use compare::raw::{ANSWER_LIST, HEADER_LIST};
+use compare::run::run;
+use compare::settings::{Settings, LEAST};
+use compare::tables::{ALMOST, NOISE, PASSING};
+use compare::tally::Tally;
+use compare::trial::FAULTS;
+use compare::walks::{MET, SURE, WALK};
+use std::io::{stdout, Write};
+
+#[test]
+fn the_archive_and_the_second_program_agree_on_random_charts() {
+    let settings = Settings::from_environment();
+    let tally = run(settings).unwrap_or_else(|difference| panic!("{difference}"));
+    let Settings { seed, charts, seconds } = settings;
+    // not by println, which the harness keeps back where a test passes
+    writeln!(stdout(), "seed {seed}: {}", tally.words()).expect("standard output is open");
+    assert!(
+        tally.charts() >= charts,
+        "only {} of {charts} charts were compared in {seconds} seconds",
+        tally.charts()
+    );
+    // fewer may do without some of it, as the one chart of a failure that is had again
+    if tally.charts() >= LEAST {
+        expect_answers(&tally);
+        expect_charts(&tally);
+        expect_lent(&tally);
+    }
+}
+
+/// So that no agreement is an idle one: every answer and every refusal of each function.
+fn expect_answers(tally: &Tally) {
+    tally.expect_each(READ, 0..=10, 100);
+    tally.expect_each(ANALYSE, 0..=12, 100);
+    tally.expect_each(CHECK, 0..=11, 100);
+    tally.expect_each(TOTAL, 0..=11, 100);
+    tally.expect_each(TOTAL, 13..=17, 300);
+    tally.expect_each(ANSWER_LIST, 0..=10, 1_000);
+    tally.expect_each(HEADER_LIST, 0..=10, 1_000);
+}
+
+fn expect_charts(tally: &Tally) {
+    tally.expect_each(GEOMETRY, 0..=GEOMETRIES - 1, 5);
+    tally.expect_each(CLASS, 0..=4, 10_000);
+    tally.expect_each(PASSES, 1..=12, 100);
+    for like in LIKE {
+        tally.expect(like, 500);
+    }
+    tally.expect_each(MET, 1..=4, 50_000);
+    tally.expect_each(WALK, 0..=1, 50_000);
+    tally.expect(SURE, 10_000);
+}
+
+fn expect_lent(tally: &Tally) {
+    tally.expect_each(ALLOWANCE, 0..=ALLOWANCES - 1, 10_000);
+    for length in LENGTHS {
+        tally.expect_each(length, 0..=4, 3_000);
+    }
+    for kind in PASSING {
+        tally.expect_each(kind, 1..=1, 10_000);
+    }
+    for kind in ALMOST {
+        tally.expect(kind, 500);
+    }
+    // some changes leave a table that passes, if it is not the tightest
+    for kind in [ALMOST[0], ALMOST[1], ALMOST[2], ALMOST[3], ALMOST[5]] {
+        tally.expect_each(kind, 1..=1, 1_000);
+    }
+    tally.expect(NOISE, 3_000);
+    tally.expect_each(FAULTS, 0..=4, 1_000);
+}

@@ -1,0 +1,106 @@
+//! Every value of a record's small fields with each other, and both sides of each boundary of its wide ones.
+
+use charts::{Chart, Record};
+use compare::ask::READ;
+use compare::group::Group;
+
+const HIGHEST: u64 = (1 << 32) - 1;
+
+/// Records of a chart of so many nodes, with and without faults.
+fn records(nodes: u64) -> impl Iterator<Item = Record> {
+    let arrows = move || [0, nodes - 1, nodes, 4095];
+    let fields = (0..4).flat_map(|kind| (0..4).map(move |outs| (kind, outs)));
+    fields.flat_map(move |(kind, outs)| {
+        arrows().into_iter().flat_map(move |first| {
+            arrows().into_iter().flat_map(move |second| {
+                [0, 1, HIGHEST].into_iter().flat_map(move |address| {
+                    [0, 1, 8, 15].into_iter().map(move |spare| Record {
+                        kind,
+                        address,
+                        outs,
+                        first,
+                        second,
+                        spare,
+                    })
+                })
+            })
+        })
+    })
+}
+
+/// Such a record as the first, a middle or the last of so many nodes; the other nodes lead on.
+fn sweep(group: &mut Group, nodes: u64) {
+    let reads: Vec<u64> = (0..nodes).map(|node| node % 2 * 16).collect();
+    let base = Chart::straight(&reads);
+    for record in records(nodes) {
+        let mut places = vec![0, nodes / 2, nodes - 1];
+        places.dedup();
+        for place in places {
+            let mut chart = base.clone();
+            chart.records[place as usize] = record;
+            group.trial(&chart.bytes());
+        }
+    }
+}
+
+#[test]
+fn every_record_at_its_boundaries_in_small_charts() {
+    let mut group = Group::of("records of small charts");
+    for nodes in 1..=4 {
+        sweep(&mut group, nodes);
+    }
+    let tally = group.end();
+    tally.expect_each(READ, 0..=0, 400);
+    tally.expect_each(READ, 9..=9, 10_000);
+}
+
+#[test]
+fn every_record_at_its_boundaries_in_the_largest_chart() {
+    let mut group = Group::of("records of the largest chart");
+    sweep(&mut group, 256);
+    let tally = group.end();
+    tally.expect_each(READ, 0..=0, 100);
+    tally.expect_each(READ, 9..=9, 1_000);
+}
+
+#[test]
+fn each_bit_and_each_two_bits_of_the_sample_flipped() {
+    let mut group = Group::of("flipped bits");
+    let sample = Chart::sample().bytes();
+    for bit in 0..sample.len() * 8 {
+        for other in 0..=bit {
+            let mut chart = sample.clone();
+            chart[bit / 8] ^= 0x80 >> (bit % 8);
+            if other != bit {
+                chart[other / 8] ^= 0x80 >> (other % 8);
+            }
+            group.trial(&chart);
+        }
+    }
+    group.end().expect_each(READ, 2..=9, 10);
+}
+
+#[test]
+fn addresses_on_both_sides_of_a_line() {
+    let mut group = Group::of("addresses");
+    for line in 2..=8 {
+        for sets in 0..=8 {
+            let (line_size, round) = (1 << line, 1 << (line + sets));
+            let addresses = [0, line_size, round, round * 3, 1 << 31, HIGHEST + 1 - round];
+            for address in addresses {
+                let mut chart = Chart::straight(&[
+                    address,
+                    address + line_size - 1,
+                    (address + HIGHEST) & HIGHEST,
+                    (address + line_size) & HIGHEST,
+                    (address + round) & HIGHEST,
+                    address,
+                ])
+                .shaped(sets, 1 + sets % 3, sets % 2);
+                chart.header.line = line;
+                group.trial(&chart.bytes());
+            }
+        }
+    }
+    group.end().expect_each(READ, 0..=0, 7 * 9 * 6);
+}

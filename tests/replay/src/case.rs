@@ -1,0 +1,39 @@
+//! A call and what is expected of it.
+
+use crate::buffer::Buffer;
+use crate::element::flat;
+use std::io::{Result, Write};
+
+/// The functions of include/veilbuzz.h.
+#[derive(Clone, Copy, Debug, PartialEq, Eq, PartialOrd, Ord)]
+pub enum Function {
+    Read = 1,
+    Analyse = 2,
+    Check = 3,
+    Total = 4,
+}
+
+/// A call. The numbers that its function does not take are 0; the buffers are in the order of the C function's parameters.
+#[derive(Clone, Debug)]
+pub struct Case {
+    pub function: Function,
+    pub allowance: u64,
+    pub hit: u16,
+    pub miss: u16,
+    pub returned: u64,
+    pub buffers: Vec<Buffer>,
+}
+
+impl Case {
+    /// A case as bytes: the function, the numbers, what is returned, and each buffer.
+    pub fn write(&self, out: &mut impl Write) -> Result<()> {
+        out.write_all(&[self.function as u8])?;
+        out.write_all(&flat(&[
+            self.allowance,
+            self.hit.into(),
+            self.miss.into(),
+            self.returned,
+        ]))?;
+        self.buffers.iter().try_for_each(|buffer| buffer.write(out))
+    }
+}

@@ -1,0 +1,31 @@
+//! Cases of veilbuzz_check.
+
+use crate::answers::Answer;
+use crate::buffer::Buffer;
+use crate::case::{Case, Function};
+use crate::inputs;
+use crate::tables::Table;
+use charts::random::Random;
+
+pub fn case(random: &mut Random) -> Case {
+    let bytes = inputs::bytes(random, 4);
+    let table = Table::of(random, &bytes, 2);
+    let answer = match second::checker::check(&bytes, table.lent()) {
+        Ok(yes) => Answer {
+            yes: yes.into(),
+            ..Answer::default()
+        },
+        Err(refusal) => Answer::refused(refusal),
+    };
+    let mut buffers = vec![Buffer::whole(&bytes)];
+    buffers.extend(table.buffers);
+    buffers.push(answer.told(random));
+    Case {
+        function: Function::Check,
+        allowance: 0,
+        hit: 0,
+        miss: 0,
+        returned: answer.number,
+        buffers,
+    }
+}

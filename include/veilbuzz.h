@@ -68,7 +68,8 @@ enum {
     VEILBUZZ_START_EMPTY = 1
 };
 
-/* What `classes` says of a node. */
+/* What `classes` says of a node: the first that applies of unreached, where its mark is 0; none, at a bare step; hit, where its block's
+ * must age is below A; miss, where its may age is A; unsure. */
 enum {
     VEILBUZZ_CLASS_UNREACHED = 0, /* no walk comes here */
     VEILBUZZ_CLASS_HIT = 1,       /* the reference always hits */
@@ -113,6 +114,7 @@ uint64_t veilbuzz_read(const uint8_t *chart, size_t chart_length,
  *          age is 0 for the youngest, A for a block that is not there; the rows of unmarked nodes are 0
  *   N      of `marks`: 1 where a walk comes, else 0
  *   N      of `classes`: see above
+ * Marks and ages are the tightest table of all that pass document 01's equations, and passes are made and counted as it says.
  * Longer buffers keep their tails, and what these held before does not matter. After refusals 1 to 11 none of the five has changed. After
  * 12 the blocks are written and the other used parts are 0, which then says nothing of the chart. */
 uint64_t veilbuzz_analyse(const uint8_t *chart, size_t chart_length,
@@ -133,10 +135,11 @@ uint64_t veilbuzz_check(const uint8_t *chart, size_t chart_length,
                         const uint8_t *marks, size_t marks_length,
                         uint64_t *answer, size_t answer_length);
 
-/* The two totals of a table that passes: refusals 1 to 11 and 13 to 17. Take a walk from the chart's entry and start that comes to each
- * node no fewer times than its floor and no more than its ceiling, and pays `hit` for each hit, `miss` for each miss and nothing at a
- * bare step: what it costs lies between the low and the high total, both included. The table is read as veilbuzz_check reads it. It writes
- * `answer` alone. */
+/* The two totals of a table that passes: refusals 1 to 11 and 13 to 17. Over the references of marked nodes, the high total adds ceiling
+ * times `hit` for class hit, else ceiling times `miss`; the low total adds floor times `miss` for class miss, else floor times `hit`. So
+ * take a walk from the chart's entry and start that comes to each node no fewer times than its floor and no more than its ceiling, and
+ * pays `hit` for each hit, `miss` for each miss and nothing at a bare step: what it costs lies between the low and the high total, both
+ * included. The table is read as veilbuzz_check reads it. It writes `answer` alone. */
 uint64_t veilbuzz_total(const uint8_t *chart, size_t chart_length,
                         const uint8_t *must, size_t must_length,
                         const uint8_t *may, size_t may_length,

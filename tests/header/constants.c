@@ -95,6 +95,19 @@ static void headers(void) {
     IS(classes[4], VEILBUZZ_CLASS_UNSURE); /* from one that may have the block */
 }
 
+/* One place fewer than its length, and a list stays as it was. */
+static void lengths(void) {
+    seven(VEILBUZZ_START_EMPTY);
+    memset(header, 0xFF, sizeof header);
+    memset(answer, 0xFF, sizeof answer);
+    IS(veilbuzz_read(chart, 64, header, VEILBUZZ_HEADER_LENGTH - 1, answer, VEILBUZZ_ANSWER_LENGTH - 1), 0);
+    IS(header[0], UINT64_MAX);
+    IS(answer[0], UINT64_MAX);
+    IS(read_chart(7), 0);
+    IS(header[VEILBUZZ_HEADER_LENGTH - 1], 4);
+    IS(answer[VEILBUZZ_ANSWER_LENGTH - 1], 0);
+}
+
 static void limits(void) {
     size_t n;
     IS(VEILBUZZ_LONGEST_CHART, 8 + 8 * VEILBUZZ_MOST_NODES);
@@ -114,6 +127,7 @@ static void limits(void) {
 int main(void) {
     answers();
     headers();
+    lengths();
     limits();
     printf("the constants of include/veilbuzz.h: %d wrong\n", wrong);
     return wrong != 0;

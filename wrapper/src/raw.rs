@@ -1,8 +1,9 @@
 //! The C functions as `include/veilbuzz.h` has them. Nothing checks these declarations against the proved source, so they stand in this
 //! one place, and the tests show of each parameter that it is the one that its name says.
 //!
-//! What a caller has to keep: behind each pointer there are as many elements as the length after it says, a buffer that is written
-//! overlaps no other of the same call, and no pointer is null, also where its length is 0.
+//! What a caller has to keep: behind each pointer there are as many elements as the length after it says, aligned for their type and set
+//! to something; a buffer that is written overlaps no other of the same call, and nobody else touches it meanwhile; no pointer is null,
+//! also where its length is 0.
 
 /// How many numbers an answer has, and the place of each. One that a function does not have is 0.
 pub const ANSWER_LENGTH: usize = 7;

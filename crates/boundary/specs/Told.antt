@@ -1,4 +1,4 @@
--- What a caller in another language is told: numbers at the start of a lent list. include/veilbuzz.h says the same in C.
+-- What a caller in another language is told: numbers at the start of a lent list. include/veilbuzz.h names their places in C.
 use Prim.Native.Nat.{ℕ}
 use mathlib.Core.Bool.{cond}
 use mathlib.Core.List.{List, [], _∷_}

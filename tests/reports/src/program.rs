@@ -2,7 +2,7 @@
 
 use std::env;
 use std::ffi::OsString;
-use std::io::Write;
+use std::io::{Read, Write};
 use std::os::unix::process::ExitStatusExt;
 use std::path::{Path, PathBuf};
 use std::process::{Child, Command, ExitStatus, Stdio};
@@ -89,12 +89,26 @@ fn peaceful(status: ExitStatus) -> bool {
     status.success() || status.signal() == Some(BROKEN_PIPE)
 }
 
+/// Words of what valgrind finds. It also tells of a signal that ends the program, which is no fault here.
+const FINDINGS: [&str; 3] = ["Invalid", "uninitialised", "lost"];
+
+/// What an ended program has said on standard error.
+fn said(child: &mut Child) -> String {
+    let mut said = String::new();
+    if let Some(mut error) = child.stderr.take() {
+        error.read_to_string(&mut said).expect("standard error can be read");
+    }
+    said
+}
+
 /// Whether a started program ends in peace within ten seconds; one that does not end is ended.
 pub fn ends(child: &mut Child) -> bool {
     let last = Instant::now() + Duration::from_secs(10);
     while Instant::now() < last {
         if let Some(status) = child.try_wait().expect("the program can be asked") {
-            assert!(peaceful(status), "the program ended with {status}");
+            let said = said(child);
+            let found = FINDINGS.iter().any(|word| said.contains(word));
+            assert!(peaceful(status) && !found, "the program ended with {status}: {said}");
             return true;
         }
         thread::sleep(Duration::from_millis(5));

@@ -1,5 +1,5 @@
--- Demand 1, as those who ordered the tool put it: "Any bytes and any buffer lengths get an answer or a numbered refusal. What a refusal returns and leaves behind, and when
--- each is given, is written down."
+-- Demand 1, as those who ordered the tool put it: "Any bytes and any buffer lengths get an answer or a numbered refusal. What a refusal
+-- returns and leaves behind, and when each is given, is written down."
 -- The definitions answer for every input whatever; this is what they say of each refusal of the reader, of the header alone, of the
 -- analysis, of the checker and of the totals. Proved as `demand1` in proofs/Demand1.antt.
 use Prim.Native.Nat.{ℕ, _≤_, _<_}

@@ -1,5 +1,6 @@
--- Demand 2, as those who ordered the tool put it: "Ages are those of the published LRU must and may analysis. A checker passes a table exactly when it meets the equations of
--- document 01. The built-in analysis is refused only as 01 lists; otherwise its table passes and is the tightest of all that pass."
+-- Demand 2, as those who ordered the tool put it: "Ages are those of the published LRU must and may analysis. A checker passes a table
+-- exactly when it meets the equations of document 01. The built-in analysis is refused only as 01 lists; otherwise its table passes and is
+-- the tightest of all that pass."
 -- (The ages are those of that analysis by definition: cache/specs/Ages.antt. That the analysis is refused only as 01 lists is
 -- `Demand1.readings` and `Demand1.analysis`.)
 -- Proved as `demand2` in proofs/Demand2.antt.

@@ -1,6 +1,6 @@
--- Demand 3, as those who ordered the tool put it: "For any table that passes, any walk along arrows from the entry and any starting contents the chart allows, the plain
--- cache run along it hits where a hit was called and misses where a miss was called; and if visits lie between floors and ceilings and
--- a miss costs at least a hit, the cost that machine counts lies between the two totals."
+-- Demand 3, as those who ordered the tool put it: "For any table that passes, any walk along arrows from the entry and any starting
+-- contents the chart allows, the plain cache run along it hits where a hit was called and misses where a miss was called; and if visits
+-- lie between floors and ceilings and a miss costs at least a hit, the cost that machine counts lies between the two totals."
 -- Proved as `demand3` in proofs/Demand3.antt.
 use Prim.Native.Nat.{ℕ, _≤_, _<_}
 use mathlib.Core.Path.{_≡_}

@@ -7,10 +7,11 @@
 -- place in its list, and one that is not there counts as the oldest.
 --
 -- A *table* marks the nodes that a walk can come to, and perhaps more; for each of them and each block it has two ages: when a walk comes
--- there, the block is no older than the one and no younger than the other. From them a reference is called a hit, a miss, or unsure. The *analysis* makes such
--- a table; the *checker* tries one that anybody made. For each node the caller says how often a walk visits it, no less than a *floor* and no
--- more than a *ceiling*; what a walk then costs lies between the two *totals*. A caller lends *buffers*, as long as it likes, for
--- a function to read or to fill. Where a function cannot answer it gives a *refusal*, a number from document 01's list, with the node at fault.
+-- there, the block is no older than the one and no younger than the other. From them a reference is called a hit, a miss, or unsure. The
+-- *analysis* makes such a table; the *checker* tries one that anybody made. For each node the caller says how often a walk visits it, no
+-- less than a *floor* and no more than a *ceiling*; what a walk then costs lies between the two *totals*. A caller lends *buffers*, as long
+-- as it likes, for a function to read or to fill. Where a function cannot answer it gives a *refusal*, a number from document 01's list,
+-- with the node at fault.
 --
 -- 1. Ask it anything. Whatever bytes come, and however short a lent buffer is, the reader of charts, the analysis, the checker and the totals
 --    give an answer or a refusal. It is written down when each refusal is given, what it returns and what it leaves in the buffers. A caller

@@ -39,7 +39,7 @@ pub patch-turn0 : (l : List ℕ) (n : ℕ) (f : ℕ → ℕ) (cur : List ℕ) (v
 patch-turn0 l n f cur v e d = rw zero-add at (patch-turn l 0 n f cur v e d)
 
 -- The place that a turn reads is as it was at the start.
-patch-read : (l : List ℕ) (base n : ℕ) (f : ℕ → ℕ) (cur : List ℕ) → cur ≡ patch l base n f → getD cur (base + n) 0 ≡ getD l (base + n) 0
+pub patch-read : (l : List ℕ) (base n : ℕ) (f : ℕ → ℕ) (cur : List ℕ) → cur ≡ patch l base n f → getD cur (base + n) 0 ≡ getD l (base + n) 0
 patch-read l base n f cur e = rw e (patch-ahead l base n f (base + n) (omega arith))
 
 -- A turn that stores what it reads, changed by g at n.

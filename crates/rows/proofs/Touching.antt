@@ -3,12 +3,12 @@ use mathlib.Core.Bool.{cond}
 use mathlib.Core.List.{List}
 use mathlib.Core.Path.{_≡_, ap, _∙_}
 use Prim.Native.Nat.{ℕ, _+_, _<_}
-use native.Mathlib.Omega.{arith}
+use native.Mathlib.Nat.{zero-add}
 use lib.ListN.{length, getD, set}
 use lib.Dec.{eqb}
 use Rattle.lists.specs.Lists.{listOf}
 use Rattle.lists.specs.Loops.{patch}
-use Rattle.lists.proofs.Loops.{patch-ahead, patch-turn0, patch-whole, patch-but}
+use Rattle.lists.proofs.Loops.{patch-read, patch-turn0, patch-whole, patch-but}
 
 -- `grow h a`: the age of another block of the set, where the touched block's is h.
 module _ (keys : List ℕ) (m : ℕ) (grow : ℕ → ℕ → ℕ) (row : List ℕ) where
@@ -18,10 +18,9 @@ module _ (keys : List ℕ) (m : ℕ) (grow : ℕ → ℕ → ℕ) (row : List �
   abbrev pub grown : ℕ → ℕ
   grown j = grows j (getD row j 0)
 
-  -- A turn reads a place that no turn before it has stored to.
   pub row-turn : (cur : List ℕ) (n v : ℕ) → cur ≡ patch row 0 n grown → v ≡ grows n (getD cur n 0) → set cur n v ≡ patch row 0 (n + 1) grown
   row-turn cur n v e d =
-      let read : getD cur n 0 ≡ getD row n 0 = rw e (patch-ahead row 0 n grown n (omega arith)) in
+      let read : getD cur n 0 ≡ getD row n 0 = rw zero-add at (patch-read row 0 n grown cur e) in
       patch-turn0 row n grown cur v e (d ∙ ap (grows n) read)
 
   abbrev pub touchedAge : ℕ → ℕ

@@ -16,13 +16,13 @@ static const uint8_t chart[] = {
 
 /* Room for any chart, so that nothing is refused for want of it. */
 static uint32_t blocks[VEILBUZZ_MOST_BLOCKS];
-static uint8_t must[VEILBUZZ_MOST_NODES * VEILBUZZ_MOST_BLOCKS];
-static uint8_t may[VEILBUZZ_MOST_NODES * VEILBUZZ_MOST_BLOCKS];
+static uint8_t must[VEILBUZZ_MOST_AGES];
+static uint8_t may[VEILBUZZ_MOST_AGES];
 static uint8_t marks[VEILBUZZ_MOST_NODES];
 static uint8_t classes[VEILBUZZ_MOST_NODES];
 
 static uint64_t header[VEILBUZZ_HEADER_LENGTH];
-static uint64_t answer[VEILBUZZ_ANSWER_LENGTH];
+static uint64_t answer[VEILBUZZ_LONGEST_ANSWER];
 
 /* The words in the order of the numbers VEILBUZZ_CLASS_UNREACHED to VEILBUZZ_CLASS_NONE. */
 static const char *const words[] = {"unreached", "always hits", "always misses", "cannot be told", "no reference"};
@@ -44,30 +44,30 @@ int main(void) {
     const uint16_t hit = 1, miss = 10;
     size_t node, nodes;
 
-    if (veilbuzz_read(chart, sizeof chart, header, VEILBUZZ_HEADER_LENGTH, answer, VEILBUZZ_ANSWER_LENGTH) != 0)
+    if (veilbuzz_read(chart, sizeof chart, header, VEILBUZZ_HEADER_LENGTH, answer, VEILBUZZ_LONGEST_ANSWER) != 0)
         return refused("read");
     nodes = (size_t)header[VEILBUZZ_HEADER_NODES];
-    printf("%llu nodes, %llu blocks, ", number(header, VEILBUZZ_HEADER_NODES), number(answer, VEILBUZZ_ANSWER_BLOCKS));
+    printf("%llu nodes, %llu blocks, ", number(header, VEILBUZZ_HEADER_NODES), number(answer, VEILBUZZ_READ_BLOCKS));
     printf("%u sets of %llu ways\n", 1u << header[VEILBUZZ_HEADER_SET_BITS], number(header, VEILBUZZ_HEADER_WAYS));
 
     if (veilbuzz_analyse(chart, sizeof chart, VEILBUZZ_ENOUGH_PASSES, blocks, VEILBUZZ_MOST_BLOCKS, must, sizeof must, may, sizeof may,
-                         marks, sizeof marks, classes, sizeof classes, answer, VEILBUZZ_ANSWER_LENGTH) != 0)
+                         marks, sizeof marks, classes, sizeof classes, answer, VEILBUZZ_LONGEST_ANSWER) != 0)
         return refused("analyse");
-    printf("settled in %llu passes\n", number(answer, VEILBUZZ_ANSWER_PASSES));
+    printf("settled in %llu passes\n", number(answer, VEILBUZZ_ANALYSE_PASSES));
     for (node = 0; node < nodes; node++)
         printf("node %u: %s\n", (unsigned)node, words[classes[node]]);
 
-    if (veilbuzz_check(chart, sizeof chart, must, sizeof must, may, sizeof may, marks, sizeof marks, answer, VEILBUZZ_ANSWER_LENGTH) != 0)
+    if (veilbuzz_check(chart, sizeof chart, must, sizeof must, may, sizeof may, marks, sizeof marks, answer, VEILBUZZ_LONGEST_ANSWER) != 0)
         return refused("check");
-    printf("the table %s\n", answer[VEILBUZZ_ANSWER_YES] == 1 ? "passes" : "does not pass");
+    printf("the table %s\n", answer[VEILBUZZ_CHECK_YES] == 1 ? "passes" : "does not pass");
 
     if (veilbuzz_total(chart, sizeof chart, must, sizeof must, may, sizeof may, marks, sizeof marks, hit, miss, floors, nodes, ceilings,
-                       nodes, answer, VEILBUZZ_ANSWER_LENGTH) != 0)
+                       nodes, answer, VEILBUZZ_LONGEST_ANSWER) != 0)
         return refused("total");
-    printf("a walk costs %llu to %llu\n", number(answer, VEILBUZZ_ANSWER_LOW), number(answer, VEILBUZZ_ANSWER_HIGH));
+    printf("a walk costs %llu to %llu\n", number(answer, VEILBUZZ_TOTAL_LOW), number(answer, VEILBUZZ_TOTAL_HIGH));
 
     /* The first byte alone is no chart: it has fewer than 8 bytes, which is refusal 1. */
-    if (veilbuzz_read(chart, 1, header, VEILBUZZ_HEADER_LENGTH, answer, VEILBUZZ_ANSWER_LENGTH) == 1)
+    if (veilbuzz_read(chart, 1, header, VEILBUZZ_HEADER_LENGTH, answer, VEILBUZZ_LONGEST_ANSWER) == 1)
         printf("its first byte: refusal %llu at %llu\n", number(answer, VEILBUZZ_ANSWER_NUMBER), number(answer, VEILBUZZ_ANSWER_PLACE));
     return 0;
 }

@@ -33,22 +33,37 @@ extern "C" {
 enum {
     VEILBUZZ_MOST_NODES = 256,
     VEILBUZZ_MOST_BLOCKS = 64,
-    VEILBUZZ_LONGEST_CHART = 2056, /* bytes */
-    VEILBUZZ_ENOUGH_PASSES = 262401
+    VEILBUZZ_MOST_WAYS = 8,
+    VEILBUZZ_MOST_AGES = VEILBUZZ_MOST_NODES * VEILBUZZ_MOST_BLOCKS,
+    VEILBUZZ_LONGEST_CHART = 8 + 8 * VEILBUZZ_MOST_NODES, /* bytes */
+    VEILBUZZ_ENOUGH_PASSES = VEILBUZZ_MOST_NODES * (1 + 2 * VEILBUZZ_MOST_BLOCKS * VEILBUZZ_MOST_WAYS) + 1
 };
 
-/* The answer of every function: seven numbers, in these places of `answer`. A number that a function does not have is 0, and so are all
- * but the first two after a refusal (12 apart). A longer `answer` keeps its tail. One of fewer than seven places stays as it was: the
- * work is done all the same and the refusal's number is returned, but the rest of the answer is lost. */
+/* An answer: numbers, in these places of `answer`. The first two are the same for every function; what comes after them is a function's
+ * own, and is 0 after a refusal, 12 apart. A longer `answer` keeps its tail. One that is shorter than its function's answer stays as it
+ * was: the work is done all the same and the refusal's number is returned, but the rest of the answer is lost. */
 enum {
     VEILBUZZ_ANSWER_NUMBER = 0, /* the refusal's number, 0 for none; also what the function returns */
     VEILBUZZ_ANSWER_PLACE = 1,  /* the node at fault for refusals 9, 10, 16 and 17, else 0 */
-    VEILBUZZ_ANSWER_PASSES = 2, /* analyse: the passes made, the last one included, which changed nothing; after 12 the allowance */
-    VEILBUZZ_ANSWER_BLOCKS = 3, /* read, analyse: B; also after 12 */
-    VEILBUZZ_ANSWER_YES = 4,    /* check: 1 where the table passes */
-    VEILBUZZ_ANSWER_LOW = 5,    /* total: the low total */
-    VEILBUZZ_ANSWER_HIGH = 6,   /* total: the high total */
-    VEILBUZZ_ANSWER_LENGTH = 7
+    VEILBUZZ_LONGEST_ANSWER = 4 /* room for the answer of any function */
+};
+enum {
+    VEILBUZZ_READ_BLOCKS = 2, /* B */
+    VEILBUZZ_READ_LENGTH = 3
+};
+enum {
+    VEILBUZZ_ANALYSE_PASSES = 2, /* the passes made, the last one included, which changed nothing; after 12 the allowance */
+    VEILBUZZ_ANALYSE_BLOCKS = 3, /* B; also after 12 */
+    VEILBUZZ_ANALYSE_LENGTH = 4
+};
+enum {
+    VEILBUZZ_CHECK_YES = 2, /* 1 where the table passes */
+    VEILBUZZ_CHECK_LENGTH = 3
+};
+enum {
+    VEILBUZZ_TOTAL_LOW = 2,  /* the low total */
+    VEILBUZZ_TOTAL_HIGH = 3, /* the high total */
+    VEILBUZZ_TOTAL_LENGTH = 4
 };
 
 /* The header that veilbuzz_read tells: six numbers, in these places of `header`. */
@@ -85,12 +100,12 @@ enum {
  *    2   its edition is not 1                                   0            the first byte has to be 01
  *    3   L not 2 to 8, S not 0 to 8, or A not 1 to 8            0            look at the cache's shape
  *    4   its start code is neither 0 nor 1                      0            0 is unknown, 1 is empty
- *    5   N is not 1 to 256                                      0            split the chart, or mend the count
+ *    5   N is 0 or above VEILBUZZ_MOST_NODES                    0            split the chart, or mend the count
  *    6   its entry is not below N                               0            name a node that there is
  *    7   a spare bit of the header is set                       0            clear it
  *    8   it is not 8 + 8 N bytes long                           0            cut it, or add the missing records
  *    9   a record breaks its rules                              first such   mend that node's record
- *   10   it has over 64 blocks                                  brings 65th  split the chart
+ *   10   it has more blocks than VEILBUZZ_MOST_BLOCKS           one too many split the chart
  *   11   a buffer is shorter than used; not of floors,          0            lend N, B or N * B elements, as said below
  *        ceilings, `header` and `answer`
  *   12   not settled within the allowance                       0            allow VEILBUZZ_ENOUGH_PASSES
@@ -127,7 +142,7 @@ uint64_t veilbuzz_analyse(const uint8_t *chart, size_t chart_length,
                           uint64_t *answer, size_t answer_length);
 
 /* Says whether a table passes document 01's equations, whoever made it: refusals 1 to 11. What it returns is 0 for a table that passes
- * and for one that does not: answer[VEILBUZZ_ANSWER_YES] alone tells them apart. Only the first N * B of `must` and `may` and the first
+ * and for one that does not: answer[VEILBUZZ_CHECK_YES] alone tells them apart. Only the first N * B of `must` and `may` and the first
  * N of `marks` matter, laid out as above. It writes `answer` alone. */
 uint64_t veilbuzz_check(const uint8_t *chart, size_t chart_length,
                         const uint8_t *must, size_t must_length,

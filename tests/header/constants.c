@@ -1,15 +1,16 @@
 /* Each constant of include/veilbuzz.h names what its name says. Nothing else uses all of them, and nothing checks them against the proved
  * source; so here every number that is told differs from its neighbours. */
 #include <stdio.h>
+#include <stdlib.h>
 #include <string.h>
 
 #include "veilbuzz.h"
 
 static uint8_t chart[VEILBUZZ_LONGEST_CHART + 8];
 static uint32_t blocks[VEILBUZZ_MOST_BLOCKS];
-static uint8_t must[VEILBUZZ_MOST_NODES * VEILBUZZ_MOST_BLOCKS], may[VEILBUZZ_MOST_NODES * VEILBUZZ_MOST_BLOCKS];
+static uint8_t must[VEILBUZZ_MOST_AGES], may[VEILBUZZ_MOST_AGES];
 static uint8_t marks[VEILBUZZ_MOST_NODES], classes[VEILBUZZ_MOST_NODES];
-static uint64_t header[VEILBUZZ_HEADER_LENGTH], answer[VEILBUZZ_ANSWER_LENGTH];
+static uint64_t header[VEILBUZZ_HEADER_LENGTH], answer[VEILBUZZ_LONGEST_ANSWER];
 static int wrong;
 
 static void is(const char *what, uint64_t told, uint64_t expected) {
@@ -38,12 +39,12 @@ static void node(size_t n, uint64_t kind, uint64_t address, uint64_t arrows, uin
 }
 
 static uint64_t read_chart(size_t nodes) {
-    return veilbuzz_read(chart, 8 + 8 * nodes, header, VEILBUZZ_HEADER_LENGTH, answer, VEILBUZZ_ANSWER_LENGTH);
+    return veilbuzz_read(chart, 8 + 8 * nodes, header, VEILBUZZ_HEADER_LENGTH, answer, VEILBUZZ_LONGEST_ANSWER);
 }
 
 static uint64_t analyse(size_t nodes, size_t allowance) {
     return veilbuzz_analyse(chart, 8 + 8 * nodes, allowance, blocks, VEILBUZZ_MOST_BLOCKS, must, sizeof must, may, sizeof may, marks,
-                            sizeof marks, classes, sizeof classes, answer, VEILBUZZ_ANSWER_LENGTH);
+                            sizeof marks, classes, sizeof classes, answer, VEILBUZZ_LONGEST_ANSWER);
 }
 
 /* Seven nodes: 4 misses, 5 hits, 6 has no reference, 0 loops on itself and is unsure, and no walk comes to 1, 2 and 3. */
@@ -59,18 +60,18 @@ static void answers(void) {
     static const uint16_t floors[] = {1, 0, 0, 0, 1, 1, 1}, ceilings[] = {9, 0, 0, 0, 1, 1, 1};
     seven(VEILBUZZ_START_EMPTY);
     IS(analyse(7, VEILBUZZ_ENOUGH_PASSES), 0);
-    IS(answer[VEILBUZZ_ANSWER_PASSES], 3);
-    IS(answer[VEILBUZZ_ANSWER_BLOCKS], 2);
+    IS(answer[VEILBUZZ_ANALYSE_PASSES], 3);
+    IS(answer[VEILBUZZ_ANALYSE_BLOCKS], 2);
     IS(classes[0], VEILBUZZ_CLASS_UNSURE);
     IS(classes[1], VEILBUZZ_CLASS_UNREACHED);
     IS(classes[4], VEILBUZZ_CLASS_MISS);
     IS(classes[5], VEILBUZZ_CLASS_HIT);
     IS(classes[6], VEILBUZZ_CLASS_NONE);
-    IS(veilbuzz_check(chart, 64, must, 14, may, 14, marks, 7, answer, VEILBUZZ_ANSWER_LENGTH), 0);
-    IS(answer[VEILBUZZ_ANSWER_YES], 1);
-    IS(veilbuzz_total(chart, 64, must, 14, may, 14, marks, 7, 1, 10, floors, 7, ceilings, 7, answer, VEILBUZZ_ANSWER_LENGTH), 0);
-    IS(answer[VEILBUZZ_ANSWER_LOW], 12);
-    IS(answer[VEILBUZZ_ANSWER_HIGH], 101);
+    IS(veilbuzz_check(chart, 64, must, 14, may, 14, marks, 7, answer, VEILBUZZ_LONGEST_ANSWER), 0);
+    IS(answer[VEILBUZZ_CHECK_YES], 1);
+    IS(veilbuzz_total(chart, 64, must, 14, may, 14, marks, 7, 1, 10, floors, 7, ceilings, 7, answer, VEILBUZZ_LONGEST_ANSWER), 0);
+    IS(answer[VEILBUZZ_TOTAL_LOW], 12);
+    IS(answer[VEILBUZZ_TOTAL_HIGH], 101);
     chart[8 * (3 + 1) + 7] = 1; /* a spare bit of node 3 */
     IS(read_chart(7), 9);
     IS(answer[VEILBUZZ_ANSWER_NUMBER], 9);
@@ -95,40 +96,71 @@ static void headers(void) {
     IS(classes[4], VEILBUZZ_CLASS_UNSURE); /* from one that may have the block */
 }
 
-/* One place fewer than its length, and a list stays as it was. */
+/* One place fewer than its length, and a list stays as it was; with it, the list has the number that is told last. */
 static void lengths(void) {
+    static const uint16_t times[] = {1, 0, 0, 0, 1, 1, 1};
+    static const uint64_t each[] = {VEILBUZZ_READ_LENGTH, VEILBUZZ_ANALYSE_LENGTH, VEILBUZZ_CHECK_LENGTH, VEILBUZZ_TOTAL_LENGTH};
+    uint64_t longest = 0;
+    size_t less, k;
     seven(VEILBUZZ_START_EMPTY);
-    memset(header, 0xFF, sizeof header);
-    memset(answer, 0xFF, sizeof answer);
-    IS(veilbuzz_read(chart, 64, header, VEILBUZZ_HEADER_LENGTH - 1, answer, VEILBUZZ_ANSWER_LENGTH - 1), 0);
-    IS(header[0], UINT64_MAX);
-    IS(answer[0], UINT64_MAX);
-    IS(read_chart(7), 0);
-    IS(header[VEILBUZZ_HEADER_LENGTH - 1], 4);
-    IS(answer[VEILBUZZ_ANSWER_LENGTH - 1], 0);
+    analyse(7, VEILBUZZ_ENOUGH_PASSES);
+    for (less = 2; less-- > 0;) {
+        memset(header, 0xFF, sizeof header);
+        memset(answer, 0xFF, sizeof answer);
+        IS(veilbuzz_read(chart, 64, header, VEILBUZZ_HEADER_LENGTH - less, answer, VEILBUZZ_READ_LENGTH - less), 0);
+        IS(header[VEILBUZZ_HEADER_LENGTH - 1], less ? UINT64_MAX : 4);
+        IS(answer[VEILBUZZ_READ_LENGTH - 1], less ? UINT64_MAX : 2);
+        memset(answer, 0xFF, sizeof answer);
+        IS(veilbuzz_analyse(chart, 64, VEILBUZZ_ENOUGH_PASSES, blocks, 2, must, 14, may, 14, marks, 7, classes, 7, answer,
+                            VEILBUZZ_ANALYSE_LENGTH - less), 0);
+        IS(answer[VEILBUZZ_ANALYSE_LENGTH - 1], less ? UINT64_MAX : 2);
+        memset(answer, 0xFF, sizeof answer);
+        IS(veilbuzz_check(chart, 64, must, 14, may, 14, marks, 7, answer, VEILBUZZ_CHECK_LENGTH - less), 0);
+        IS(answer[VEILBUZZ_CHECK_LENGTH - 1], less ? UINT64_MAX : 1);
+        memset(answer, 0xFF, sizeof answer);
+        IS(veilbuzz_total(chart, 64, must, 14, may, 14, marks, 7, 1, 10, times, 7, times, 7, answer, VEILBUZZ_TOTAL_LENGTH - less), 0);
+        IS(answer[VEILBUZZ_TOTAL_LENGTH - 1], less ? UINT64_MAX : 21);
+    }
+    for (k = 0; k < sizeof each / sizeof *each; k++)
+        if (each[k] > longest)
+            longest = each[k];
+    IS(VEILBUZZ_LONGEST_ANSWER, longest);
 }
 
+/* The most that the functions take, and no more. */
 static void limits(void) {
     size_t n;
-    IS(VEILBUZZ_LONGEST_CHART, 8 + 8 * VEILBUZZ_MOST_NODES);
     head(VEILBUZZ_START_EMPTY, VEILBUZZ_MOST_NODES, 0);
     IS(read_chart(VEILBUZZ_MOST_NODES), 0);
     for (n = 0; n < VEILBUZZ_MOST_BLOCKS; n++)
         node(n, 1, 32 * n, 0, 0);
     IS(read_chart(VEILBUZZ_MOST_NODES), 0);
-    IS(answer[VEILBUZZ_ANSWER_BLOCKS], VEILBUZZ_MOST_BLOCKS);
+    IS(answer[VEILBUZZ_READ_BLOCKS], VEILBUZZ_MOST_BLOCKS);
     node(n, 1, 32 * n, 0, 0);
     IS(read_chart(VEILBUZZ_MOST_NODES), 10);
     head(VEILBUZZ_START_EMPTY, VEILBUZZ_MOST_NODES + 1, 0);
     IS(read_chart(VEILBUZZ_MOST_NODES + 1), 5);
-    IS(VEILBUZZ_ENOUGH_PASSES, VEILBUZZ_MOST_NODES * (1 + 2 * VEILBUZZ_MOST_BLOCKS * 8) + 1);
 }
 
-int main(void) {
+/* The limits are the second program's, which are handed in. */
+static void same(char **numbers) {
+    static const uint64_t named[] = {VEILBUZZ_MOST_NODES, VEILBUZZ_MOST_BLOCKS,   VEILBUZZ_MOST_WAYS,
+                                     VEILBUZZ_MOST_AGES,  VEILBUZZ_LONGEST_CHART, VEILBUZZ_ENOUGH_PASSES};
+    size_t k;
+    for (k = 0; k < sizeof named / sizeof *named; k++)
+        is("a limit of include/veilbuzz.h", named[k], strtoull(numbers[k], NULL, 10));
+}
+
+int main(int count, char **numbers) {
     answers();
     headers();
     lengths();
     limits();
+    if (count != 7) {
+        printf("constants: hand in the six limits\n");
+        return 2;
+    }
+    same(numbers + 1);
     printf("the constants of include/veilbuzz.h: %d wrong\n", wrong);
     return wrong != 0;
 }

@@ -1,6 +1,8 @@
 use crate::answer::Answer;
 use crate::raw;
 use crate::Refusal;
+use std::error::Error;
+use std::fmt;
 
 /// What a caller lends to [`analyse`]. What the buffers held before does not matter, and longer ones keep their tails.
 pub struct Buffers<'a> {
@@ -25,11 +27,41 @@ pub struct Settled {
     pub blocks: usize,
 }
 
+/// What an analysis returns that does not settle.
+#[derive(Clone, Copy, Debug, PartialEq, Eq)]
+pub enum Unsettled {
+    /// One of refusals 1 to 11: no buffer has changed.
+    Refused(Refusal),
+    /// Refusal 12: so many passes were not enough. The blocks are written, and the other used parts are 0.
+    Spent {
+        allowance: usize,
+        /// B.
+        blocks: usize,
+    },
+}
+
+impl From<Unsettled> for Refusal {
+    fn from(unsettled: Unsettled) -> Refusal {
+        match unsettled {
+            Unsettled::Refused(refusal) => refusal,
+            Unsettled::Spent { .. } => Refusal::SPENT,
+        }
+    }
+}
+
+impl fmt::Display for Unsettled {
+    fn fmt(&self, text: &mut fmt::Formatter) -> fmt::Result {
+        Refusal::from(*self).fmt(text)
+    }
+}
+
+impl Error for Unsettled {}
+
 /// Analyses a chart with at most `allowance` passes, or refuses it with one of 1 to 12. [`PASSES`](crate::PASSES) are enough for every
-/// chart. After refusals 1 to 11 no buffer has changed; after 12 the blocks are written and the other used parts are 0.
-pub fn analyse(chart: &[u8], allowance: usize, lent: Buffers) -> Result<Settled, Refusal> {
+/// chart.
+pub fn analyse(chart: &[u8], allowance: usize, lent: Buffers) -> Result<Settled, Unsettled> {
     // each pointer and its length are one slice's, and a slice that can be written overlaps no other
-    let answer = Answer::of(|answer, length| unsafe {
+    let answer = Answer::<{ raw::ANALYSE_LENGTH }>::of(|answer, length| unsafe {
         raw::veilbuzz_analyse(
             chart.as_ptr(),
             chart.len(),
@@ -47,9 +79,15 @@ pub fn analyse(chart: &[u8], allowance: usize, lent: Buffers) -> Result<Settled,
             answer,
             length,
         )
-    })?;
-    Ok(Settled {
-        passes: answer.count(raw::PASSES),
-        blocks: answer.count(raw::BLOCKS),
-    })
+    });
+    let passes = answer.count(raw::ANALYSE_PASSES);
+    let blocks = answer.count(raw::ANALYSE_BLOCKS);
+    match answer.accepted() {
+        Ok(_) => Ok(Settled { passes, blocks }),
+        Err(Refusal::SPENT) => Err(Unsettled::Spent {
+            allowance: passes,
+            blocks,
+        }),
+        Err(refusal) => Err(Unsettled::Refused(refusal)),
+    }
 }

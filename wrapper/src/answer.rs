@@ -4,25 +4,27 @@ use crate::Refusal;
 // The functions speak in 64 bits, of numbers and of lengths alike; so no number is cut below.
 const _: () = assert!(usize::BITS == 64);
 
-/// The seven numbers of an answer that is no refusal.
-pub struct Answer([u64; raw::ANSWER_LENGTH]);
+/// The numbers of an answer: a refusal's number and place, both 0 for none, and then what its function alone returns.
+pub struct Answer<const LENGTH: usize>([u64; LENGTH]);
 
-impl Answer {
+impl<const LENGTH: usize> Answer<LENGTH> {
     /// What a function tells in the list that it is handed, by pointer and length.
-    pub fn of(call: impl FnOnce(*mut u64, usize) -> u64) -> Result<Answer, Refusal> {
-        let mut told = [0; raw::ANSWER_LENGTH];
+    pub fn of(call: impl FnOnce(*mut u64, usize) -> u64) -> Self {
+        let mut told = [0; LENGTH];
         let number = call(told.as_mut_ptr(), told.len());
         debug_assert_eq!(number, told[raw::NUMBER]);
-        let answer = Answer(told);
-        if number == 0 {
-            return Ok(answer);
+        Answer(told)
+    }
+
+    /// The answer, unless it is a refusal.
+    pub fn accepted(self) -> Result<Self, Refusal> {
+        match self.count(raw::NUMBER) {
+            0 => Ok(self),
+            number => Err(Refusal {
+                number,
+                place: self.count(raw::PLACE),
+            }),
         }
-        Err(Refusal {
-            number: number as usize,
-            place: answer.count(raw::PLACE),
-            passes: answer.count(raw::PASSES),
-            blocks: answer.count(raw::BLOCKS),
-        })
     }
 
     pub fn number(&self, place: usize) -> u64 {

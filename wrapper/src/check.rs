@@ -16,7 +16,7 @@ pub struct Table<'a> {
 /// Whether a table passes document 01's equations, or one of refusals 1 to 11.
 pub fn check(chart: &[u8], table: Table) -> Result<bool, Refusal> {
     // each pointer and its length are one slice's; of these nothing is written
-    let answer = Answer::of(|answer, length| unsafe {
+    let answer = Answer::<{ raw::CHECK_LENGTH }>::of(|answer, length| unsafe {
         raw::veilbuzz_check(
             chart.as_ptr(),
             chart.len(),
@@ -29,6 +29,7 @@ pub fn check(chart: &[u8], table: Table) -> Result<bool, Refusal> {
             answer,
             length,
         )
-    })?;
-    Ok(answer.number(raw::YES) == 1)
+    })
+    .accepted()?;
+    Ok(answer.number(raw::CHECK_YES) == 1)
 }

@@ -22,11 +22,11 @@ mod read;
 mod refusal;
 mod total;
 
-pub use analyse::{analyse, Buffers, Settled};
+pub use analyse::{analyse, Buffers, Settled, Unsettled};
 pub use analysis::Analysis;
 pub use check::{check, Table};
 pub use class::Class;
-pub use limits::{BLOCKS, NODES, PASSES};
+pub use limits::{AGES, BLOCKS, LONGEST, NODES, PASSES, WAYS};
 pub use read::{read, Header, Start};
 pub use refusal::Refusal;
 pub use total::{total, Bounds, Costs, Totals};

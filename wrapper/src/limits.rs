@@ -4,5 +4,14 @@ pub const NODES: usize = 256;
 /// The most blocks of a chart.
 pub const BLOCKS: usize = 64;
 
+/// The most ways of a set.
+pub const WAYS: usize = 8;
+
+/// Must ages, or may ages, that are enough for every chart.
+pub const AGES: usize = NODES * BLOCKS;
+
+/// The bytes of the longest chart.
+pub const LONGEST: usize = 8 + 8 * NODES;
+
 /// Passes that every chart settles within.
-pub const PASSES: usize = 262_401;
+pub const PASSES: usize = NODES * (1 + 2 * BLOCKS * WAYS) + 1;

@@ -5,22 +5,34 @@
 //! to something; a buffer that is written overlaps no other of the same call, and nobody else touches it meanwhile; no pointer is null,
 //! also where its length is 0.
 
-/// How many numbers an answer has, and the place of each. One that a function does not have is 0.
-pub const ANSWER_LENGTH: usize = 7;
-/// The refusal's number, 0 for none; also what the function returns.
+/// In every answer: the refusal's number, 0 for none; also what the function returns.
 pub const NUMBER: usize = 0;
-/// The node at fault for refusals 9, 10, 16 and 17, else 0.
+/// In every answer: the node at fault for refusals 9, 10, 16 and 17, else 0.
 pub const PLACE: usize = 1;
+
+/// `veilbuzz_read`: B.
+pub const READ_BLOCKS: usize = 2;
+/// How many numbers its answer has.
+pub const READ_LENGTH: usize = 3;
+
 /// `veilbuzz_analyse`: the passes made; after 12 the allowance.
-pub const PASSES: usize = 2;
-/// `veilbuzz_read`, `veilbuzz_analyse`: B; also after 12.
-pub const BLOCKS: usize = 3;
+pub const ANALYSE_PASSES: usize = 2;
+/// `veilbuzz_analyse`: B; also after 12.
+pub const ANALYSE_BLOCKS: usize = 3;
+/// How many numbers its answer has.
+pub const ANALYSE_LENGTH: usize = 4;
+
 /// `veilbuzz_check`: 1 if the table passes, 0 if not.
-pub const YES: usize = 4;
+pub const CHECK_YES: usize = 2;
+/// How many numbers its answer has.
+pub const CHECK_LENGTH: usize = 3;
+
 /// `veilbuzz_total`: the low total.
-pub const LOW: usize = 5;
+pub const TOTAL_LOW: usize = 2;
 /// `veilbuzz_total`: the high total.
-pub const HIGH: usize = 6;
+pub const TOTAL_HIGH: usize = 3;
+/// How many numbers its answer has.
+pub const TOTAL_LENGTH: usize = 4;
 
 /// How many numbers a header has: L, S, A, the start code, N and the entry, in this order.
 pub const HEADER_LENGTH: usize = 6;

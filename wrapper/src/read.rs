@@ -33,7 +33,7 @@ pub struct Header {
 pub fn read(chart: &[u8]) -> Result<Header, Refusal> {
     let mut told = [0; raw::HEADER_LENGTH];
     // each pointer and its length are one slice's; the two lists are of this function and the one below it
-    let answer = Answer::of(|answer, length| unsafe {
+    let answer = Answer::<{ raw::READ_LENGTH }>::of(|answer, length| unsafe {
         raw::veilbuzz_read(
             chart.as_ptr(),
             chart.len(),
@@ -42,7 +42,8 @@ pub fn read(chart: &[u8]) -> Result<Header, Refusal> {
             answer,
             length,
         )
-    })?;
+    })
+    .accepted()?;
     let [line, sets, ways, start, nodes, entry] = told.map(|number| number as usize);
     Ok(Header {
         line,
@@ -55,6 +56,6 @@ pub fn read(chart: &[u8]) -> Result<Header, Refusal> {
         },
         nodes,
         entry,
-        blocks: answer.count(raw::BLOCKS),
+        blocks: answer.count(raw::READ_BLOCKS),
     })
 }

@@ -1,3 +1,4 @@
+use crate::{BLOCKS, NODES, PASSES};
 use std::error::Error;
 use std::fmt;
 
@@ -8,13 +9,14 @@ pub struct Refusal {
     pub number: usize,
     /// The node at fault for 9, 10, 16 and 17, else 0.
     pub place: usize,
-    /// The allowance after 12, else 0.
-    pub passes: usize,
-    /// B after 12, else 0.
-    pub blocks: usize,
 }
 
-/// What each number says and what to do, from 1 on.
+impl Refusal {
+    /// That the passes allowed were not enough.
+    pub const SPENT: Refusal = Refusal { number: 12, place: 0 };
+}
+
+/// What each number says and what to do, from 1 on. The names of limits stand for their numbers.
 const WORDS: [[&str; 2]; 17] = [
     ["the chart has fewer than 8 bytes", "give the whole file"],
     ["the edition is not 1", "the first byte has to be 01"],
@@ -23,7 +25,7 @@ const WORDS: [[&str; 2]; 17] = [
         "look at the cache's shape",
     ],
     ["the start code is neither 0 nor 1", "0 is unknown, 1 is empty"],
-    ["N is not 1 to 256", "split the chart, or mend the count"],
+    ["N is not 1 to NODES", "split the chart, or mend the count"],
     ["the entry is not below N", "name a node that there is"],
     ["a spare bit of the header is set", "clear it"],
     [
@@ -31,12 +33,12 @@ const WORDS: [[&str; 2]; 17] = [
         "cut it, or add the missing records",
     ],
     ["a record breaks its rules", "mend that node's record"],
-    ["the chart has over 64 blocks", "split the chart"],
+    ["the chart has over BLOCKS blocks", "split the chart"],
     [
         "a lent buffer is shorter than used",
         "lend N, B or N * B elements, as the function says",
     ],
-    ["not settled within the passes allowed", "allow 262401 passes"],
+    ["not settled within the passes allowed", "allow PASSES passes"],
     ["the table does not pass", "lend the one that the analysis wrote"],
     ["floors or ceilings are not N long", "one number for each node"],
     ["the miss cost is below the hit cost", "swap them, if they were swapped"],
@@ -47,12 +49,24 @@ const WORDS: [[&str; 2]; 17] = [
     ],
 ];
 
+/// Words with the limits that they name.
+fn filled(words: &str) -> String {
+    [("NODES", NODES), ("BLOCKS", BLOCKS), ("PASSES", PASSES)]
+        .iter()
+        .fold(words.to_string(), |words, (name, limit)| {
+            words.replace(name, &limit.to_string())
+        })
+}
+
 impl fmt::Display for Refusal {
     fn fmt(&self, text: &mut fmt::Formatter) -> fmt::Result {
-        let Refusal { number, place, .. } = self;
+        let Refusal { number, place } = self;
         write!(text, "refused {number} at {place}")?;
         match number.checked_sub(1).and_then(|row| WORDS.get(row)) {
-            Some([what, remedy]) => write!(text, ": {what} ({remedy})"),
+            Some(words) => {
+                let [what, remedy] = words.map(filled);
+                write!(text, ": {what} ({remedy})")
+            }
             None => Ok(()),
         }
     }

@@ -27,7 +27,7 @@ pub struct Totals {
 /// The two totals under a table that passes, or one of refusals 1 to 11 and 13 to 17.
 pub fn total(chart: &[u8], table: Table, costs: Costs, bounds: Bounds) -> Result<Totals, Refusal> {
     // each pointer and its length are one slice's; of these nothing is written
-    let answer = Answer::of(|answer, length| unsafe {
+    let answer = Answer::<{ raw::TOTAL_LENGTH }>::of(|answer, length| unsafe {
         raw::veilbuzz_total(
             chart.as_ptr(),
             chart.len(),
@@ -46,9 +46,10 @@ pub fn total(chart: &[u8], table: Table, costs: Costs, bounds: Bounds) -> Result
             answer,
             length,
         )
-    })?;
+    })
+    .accepted()?;
     Ok(Totals {
-        low: answer.number(raw::LOW),
-        high: answer.number(raw::HIGH),
+        low: answer.number(raw::TOTAL_LOW),
+        high: answer.number(raw::TOTAL_HIGH),
     })
 }

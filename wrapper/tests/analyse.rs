@@ -3,19 +3,14 @@
 mod lent;
 
 use lent::{chart, Lent, AGES, BLOCKS, NODES};
-use veilbuzz::{analyse, Analysis, Class, Refusal, Settled, PASSES};
+use veilbuzz::{analyse, Analysis, Class, Refusal, Settled, Unsettled, PASSES};
 
-fn refusal(number: usize, passes: usize, blocks: usize) -> Result<Settled, Refusal> {
-    Err(Refusal {
-        number,
-        place: 0,
-        passes,
-        blocks,
-    })
+fn refusal(number: usize, place: usize) -> Result<Settled, Unsettled> {
+    Err(Unsettled::Refused(Refusal { number, place }))
 }
 
 /// Analyses into buffers after a change of these. The answer, and what they hold then.
-fn after(change: impl Fn(&mut Lent)) -> (Result<Settled, Refusal>, Lent) {
+fn after(change: impl Fn(&mut Lent)) -> (Result<Settled, Unsettled>, Lent) {
     let mut lent = Lent::fresh();
     change(&mut lent);
     (analyse(&chart(), PASSES, lent.buffers()), lent)
@@ -40,7 +35,7 @@ fn each_buffer_has_its_own_length() {
     for shorten in shortened {
         let mut before = Lent::fresh();
         shorten(&mut before);
-        assert_eq!(after(shorten), (refusal(11, 0, 0), before));
+        assert_eq!(after(shorten), (refusal(11, 0), before));
     }
     let exact = |lent: &mut Lent| {
         lent.blocks.truncate(BLOCKS);
@@ -57,7 +52,12 @@ fn each_buffer_has_its_own_length() {
 #[test]
 fn the_allowance_counts() {
     let mut lent = Lent::fresh();
-    assert_eq!(analyse(&chart(), 1, lent.buffers()), refusal(12, 1, 3));
+    let spent = Unsettled::Spent {
+        allowance: 1,
+        blocks: 3,
+    };
+    assert_eq!(analyse(&chart(), 1, lent.buffers()), Err(spent));
+    assert_eq!(spent.to_string(), Refusal::SPENT.to_string());
     let mut unsettled = Lent::settled();
     unsettled.must[..AGES].fill(0);
     unsettled.may[..AGES].fill(0);
@@ -76,13 +76,7 @@ fn a_refused_chart_changes_nothing() {
     let mut bytes = chart();
     bytes[8 + 8 * 2 + 7] |= 1;
     let mut lent = Lent::fresh();
-    let refused = Refusal {
-        number: 9,
-        place: 2,
-        passes: 0,
-        blocks: 0,
-    };
-    assert_eq!(analyse(&bytes, PASSES, lent.buffers()), Err(refused));
+    assert_eq!(analyse(&bytes, PASSES, lent.buffers()), refusal(9, 2));
     assert_eq!(lent, Lent::fresh());
 }
 

@@ -16,12 +16,7 @@ fn after(change: impl Fn(&mut Lent)) -> Result<bool, Refusal> {
 }
 
 fn refusal(number: usize, place: usize) -> Result<bool, Refusal> {
-    Err(Refusal {
-        number,
-        place,
-        passes: 0,
-        blocks: 0,
-    })
+    Err(Refusal { number, place })
 }
 
 #[test]

@@ -1,4 +1,4 @@
-//! The C functions themselves: what each tells in all seven places of its answer, and lists of every length around the used one.
+//! The C functions themselves: what each tells in all places of its answer, and lists of every length around the used one.
 
 mod lent;
 
@@ -22,11 +22,11 @@ fn told(length: usize, numbers: &[u64]) -> Vec<u64> {
 
 const LENGTHS: Range<usize> = 0..10;
 
-/// Holds a function to its seven numbers, for answers of every length.
-fn tells(numbers: [u64; 7], call: impl Fn(*mut u64, usize) -> u64) {
+/// Holds a function to the numbers of its answer, for lists of every length.
+fn tells<const NUMBERS: usize>(numbers: [u64; NUMBERS], call: impl Fn(*mut u64, usize) -> u64) {
     for length in LENGTHS {
         let mut answer = list(length);
-        assert_eq!(call(answer.as_mut_ptr(), length), numbers[0]);
+        assert_eq!(call(answer.as_mut_ptr(), length), numbers[raw::NUMBER]);
         assert_eq!(answer, told(length, &numbers), "a list of {length}");
     }
 }
@@ -47,10 +47,8 @@ fn read(chart: &[u8], header: &mut [u64], answer: *mut u64, length: usize) -> u6
 #[test]
 fn read_tells_the_number_of_blocks() {
     let bytes = chart();
-    tells([0, 0, 0, 3, 0, 0, 0], |answer, length| {
-        read(&bytes, &mut [0; 6], answer, length)
-    });
-    tells([8, 0, 0, 0, 0, 0, 0], |answer, length| {
+    tells([0, 0, 3], |answer, length| read(&bytes, &mut [0; 6], answer, length));
+    tells([8, 0, 0], |answer, length| {
         read(&bytes[..39], &mut [0; 6], answer, length)
     });
 }
@@ -60,10 +58,10 @@ fn read_tells_six_numbers_of_a_header_if_there_is_room() {
     let bytes = chart();
     for length in LENGTHS {
         let mut header = list(length);
-        assert_eq!(read(&bytes, &mut header, [0; 7].as_mut_ptr(), 7), 0);
+        assert_eq!(read(&bytes, &mut header, [0; 3].as_mut_ptr(), 3), 0);
         assert_eq!(header, told(length, &[4, 0, 2, 0, 4, 0]));
         let mut header = list(length);
-        assert_eq!(read(&bytes[..39], &mut header, [0; 7].as_mut_ptr(), 7), 8);
+        assert_eq!(read(&bytes[..39], &mut header, [0; 3].as_mut_ptr(), 3), 8);
         assert_eq!(header, list(length));
     }
 }
@@ -93,8 +91,8 @@ fn analyse(allowance: usize, answer: *mut u64, length: usize) -> u64 {
 
 #[test]
 fn analyse_tells_passes_and_blocks() {
-    tells([0, 0, 2, 3, 0, 0, 0], |answer, length| analyse(PASSES, answer, length));
-    tells([12, 0, 1, 3, 0, 0, 0], |answer, length| analyse(1, answer, length));
+    tells([0, 0, 2, 3], |answer, length| analyse(PASSES, answer, length));
+    tells([12, 0, 1, 3], |answer, length| analyse(1, answer, length));
 }
 
 fn check(lent: &Lent, answer: *mut u64, length: usize) -> u64 {
@@ -118,11 +116,11 @@ fn check(lent: &Lent, answer: *mut u64, length: usize) -> u64 {
 #[test]
 fn check_tells_yes() {
     let mut lent = Lent::settled();
-    tells([0, 0, 0, 0, 1, 0, 0], |answer, length| check(&lent, answer, length));
+    tells([0, 0, 1], |answer, length| check(&lent, answer, length));
     lent.marks[0] = 0;
-    tells([0, 0, 0, 0, 0, 0, 0], |answer, length| check(&lent, answer, length));
+    tells([0, 0, 0], |answer, length| check(&lent, answer, length));
     lent.marks.clear();
-    tells([11, 0, 0, 0, 0, 0, 0], |answer, length| check(&lent, answer, length));
+    tells([11, 0, 0], |answer, length| check(&lent, answer, length));
 }
 
 fn total(floors: &[u16], answer: *mut u64, length: usize) -> u64 {
@@ -151,10 +149,8 @@ fn total(floors: &[u16], answer: *mut u64, length: usize) -> u64 {
 
 #[test]
 fn total_tells_low_and_high() {
-    tells([0, 0, 0, 0, 0, 18, 210_000], |answer, length| {
+    tells([0, 0, 18, 210_000], |answer, length| {
         total(&[1, 2, 3, 0], answer, length)
     });
-    tells([17, 3, 0, 0, 0, 0, 0], |answer, length| {
-        total(&[1, 2, 3, 4], answer, length)
-    });
+    tells([17, 3, 0, 0], |answer, length| total(&[1, 2, 3, 4], answer, length));
 }

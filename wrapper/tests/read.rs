@@ -1,7 +1,7 @@
 //! `read`: each number of the header comes from its own field, and a refusal from its own place.
 
 use charts::{Chart, Record};
-use veilbuzz::{read, Header, Refusal, Start};
+use veilbuzz::{read, Header, Refusal, Start, BLOCKS};
 
 /// A chart whose header has a different number in each field, and five blocks.
 fn chart() -> Chart {
@@ -12,12 +12,7 @@ fn chart() -> Chart {
 }
 
 fn refusal(number: usize, place: usize) -> Result<Header, Refusal> {
-    Err(Refusal {
-        number,
-        place,
-        passes: 0,
-        blocks: 0,
-    })
+    Err(Refusal { number, place })
 }
 
 #[test]
@@ -53,8 +48,8 @@ fn a_refusal_tells_its_number_and_its_place() {
     let mut chart = chart();
     chart.records[5].spare = 1;
     assert_eq!(read(&chart.bytes()), refusal(9, 5));
-    let many: Vec<u64> = (0..70).map(|block| block * 16).collect();
-    assert_eq!(read(&Chart::reads(&many).bytes()), refusal(10, 64));
+    let many: Vec<u64> = (0..BLOCKS as u64 + 6).map(|block| block * 16).collect();
+    assert_eq!(read(&Chart::reads(&many).bytes()), refusal(10, BLOCKS));
 }
 
 #[test]

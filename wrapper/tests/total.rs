@@ -36,12 +36,7 @@ fn after(change: impl Fn(&mut Question)) -> Result<Totals, Refusal> {
 }
 
 fn refusal(number: usize, place: usize) -> Result<Totals, Refusal> {
-    Err(Refusal {
-        number,
-        place,
-        passes: 0,
-        blocks: 0,
-    })
+    Err(Refusal { number, place })
 }
 
 #[test]

@@ -1,15 +1,9 @@
 //! What a refusal and a class say.
 
-use veilbuzz::{Class, Refusal};
+use veilbuzz::{Class, Refusal, BLOCKS, NODES, PASSES};
 
 fn refusal(number: usize, place: usize) -> String {
-    let refusal = Refusal {
-        number,
-        place,
-        passes: 0,
-        blocks: 0,
-    };
-    refusal.to_string()
+    Refusal { number, place }.to_string()
 }
 
 #[test]
@@ -26,6 +20,14 @@ fn a_refusal_says_its_number_its_place_what_was_found_and_what_to_do() {
         refusal(17, 5),
         "refused 17 at 5: a floor is above 0 at an unmarked node (no walk comes there: make it 0)"
     );
+}
+
+#[test]
+fn the_limits_stand_in_the_words() {
+    let says = |number, what: String| assert!(refusal(number, 0).contains(&what), "{}", refusal(number, 0));
+    says(5, format!("N is not 1 to {NODES} "));
+    says(10, format!("over {BLOCKS} blocks "));
+    says(12, format!("allow {PASSES} passes"));
 }
 
 #[test]

@@ -1,3 +1,4 @@
 pub mod Room
+pub mod Starting
 pub mod Finishing
-pub mod Calling
+pub mod Answering

@@ -5,19 +5,23 @@ use mathlib.Core.Bool.{Bool, _||_}
 use mathlib.Core.List.{List, [], _∷_}
 use lib.ListN.{length, replicate}
 use lib.Dec.{ltb}
+use denote.Ref.{now}
+use Rattle.lists.specs.Slices.{Slice}
 use Rattle.lists.specs.Choice.{_⇒_, firstRule}
 use Rattle.lists.specs.Lists.{written}
 use Rattle.refusals.specs.declared.Refusal.{Refusal}
-use Rattle.refusals.specs.declared.Refusal.the-variants.{ShortBuffer, Unsettled}
-use Rattle.refusals.specs.Refusals.{Said, answerWith, refusalSays}
-use Rattle.chart.specs.Chart.{Chart, Read, accepted, refused, readChart, blockCount}
+use Rattle.refusals.specs.declared.Refusal.the-variants.{ShortBuffer}
+use Rattle.refusals.specs.declared.Refusal.the-variants as refusals
+use Rattle.refusals.specs.Refusals.{numberOf, placeOf}
+use Rattle.chart.specs.Chart.{Read, accepted, refused, readChart}
 use Rattle.cache.specs.Ages.{Ages}
 use Rattle.flow.specs.Flow.{Cell}
 use Rattle.flow.specs.Pass.{Outcome, settled, spent, settle}
 use Rattle.analysis.specs.declared.Analysed.{Analysed}
-use Rattle.analysis.specs.declared.Analysed.the-variants.{Settled, Refused}
-use Rattle.tables.specs.AgesFlow.{agesFlow}
-use Rattle.analysis.specs.Class.{tableClasses}
+use Rattle.analysis.specs.declared.Analysed.the-variants.{Settled, Unsettled, Refused}
+use Rattle.ages.specs.Plan.{Plan}
+use Rattle.ages.specs.Charted.{planOf, agesFlow}
+use Rattle.classes.specs.Class.{tableClasses}
 use Rattle.tables.specs.Lent.{Lent, agesUsed, marksUsed, tableShort, lentOf}
 
 -- The five buffers that the analysis writes to.
@@ -33,62 +37,97 @@ pub record Left : Type 0 where
   pub answer : Analysed
   pub buffers : Buffers
 
--- This paper's number and values for each answer.
-abbrev pub analysedSays : Analysed → Said
-analysedSays (Settled passes blocks) = answerWith passes blocks 0 0 0
-analysedSays (Refused refusal) = refusalSays refusal
+-- The answer in numbers: number and place, both 0 for no refusal, then the pass count and B.
+pub record AnalysedSaid : Type 0 where
+  pub number : ℕ
+  pub place : ℕ
+  pub passes : ℕ
+  pub blocks : ℕ
+
+-- "Every refusal returns its number and place, with pass count, block count .. 0, save that 12 also returns the allowance and B."
+abbrev pub analysedSays : Analysed → AnalysedSaid
+analysedSays (Settled passes blocks) = record { number = 0; place = 0; passes = passes; blocks = blocks }
+analysedSays (Unsettled allowance blocks) =
+    record { number = numberOf refusals.Unsettled; place = placeOf refusals.Unsettled; passes = allowance; blocks = blocks }
+analysedSays (Refused refusal) = record { number = numberOf refusal; place = placeOf refusal; passes = 0; blocks = 0 }
 
 abbrev pub tableIn : Buffers → Lent
 tableIn buffers = record { must = buffers .must; may = buffers .may; marks = buffers .marks }
 
+-- The buffers as the clauses of a contract name them: at entry and at exit.
+abbrev pub entryBuffers : Slice → Slice → Slice → Slice → Slice → Buffers
+entryBuffers blocks must may marks classes =
+    record {
+      blocks = now (blocks .entry);
+      must = now (must .entry);
+      may = now (may .entry);
+      marks = now (marks .entry);
+      classes = now (classes .entry);
+    }
+
+abbrev pub exitBuffers : Slice → Slice → Slice → Slice → Slice → Buffers
+exitBuffers blocks must may marks classes =
+    record {
+      blocks = now (blocks .exit);
+      must = now (must .exit);
+      may = now (may .exit);
+      marks = now (marks .exit);
+      classes = now (classes .exit);
+    }
+
+-- The answer with the buffers at exit.
+abbrev pub exitLeft : Slice → Slice → Slice → Slice → Slice → Analysed → Left
+exitLeft blocks must may marks classes answer =
+    record { answer = answer; buffers = exitBuffers blocks must may marks classes }
+
 -- "N classes"
-abbrev pub classesUsed : Chart → ℕ
-classesUsed chart = chart .header .nodes
+abbrev pub classesUsed : Plan → ℕ
+classesUsed plan = plan .nodes
 
 -- "a lent buffer, floors and ceilings apart, shorter than used"
-abbrev pub buffersShort : Chart → Buffers → Bool
-buffersShort chart buffers =
-    ltb (length (buffers .blocks)) (blockCount chart)
-    || (tableShort chart (tableIn buffers) || ltb (length (buffers .classes)) (classesUsed chart))
+abbrev pub buffersShort : Plan → Buffers → Bool
+buffersShort plan buffers =
+    ltb (length (buffers .blocks)) (plan .blocks)
+    || (tableShort plan (tableIn buffers) || ltb (length (buffers .classes)) (classesUsed plan))
 
 -- "It writes B block numbers, N·B must ages, N·B may ages (row after row), N marks, N classes; longer buffers keep their tails."
-abbrev pub fill : Chart → Lent → List ℕ → Buffers → Buffers
-fill chart table classes buffers =
+abbrev pub fill : List ℕ → Lent → List ℕ → Buffers → Buffers
+fill blocks table classes buffers =
     record {
-      blocks = written (chart .blocks) (buffers .blocks);
+      blocks = written blocks (buffers .blocks);
       must = written (table .must) (buffers .must);
       may = written (table .may) (buffers .may);
       marks = written (table .marks) (buffers .marks);
       classes = written classes (buffers .classes);
     }
 
-abbrev pub zeroLent : Chart → Lent
-zeroLent chart =
+abbrev pub zeroLent : Plan → Lent
+zeroLent plan =
     record {
-      must = replicate (agesUsed chart) 0;
-      may = replicate (agesUsed chart) 0;
-      marks = replicate (marksUsed chart) 0;
+      must = replicate (agesUsed plan) 0;
+      may = replicate (agesUsed plan) 0;
+      marks = replicate (marksUsed plan) 0;
     }
 
--- The buffers after an analysis that ended with this table, and after one that did not settle.
-abbrev pub filledBy : Chart → List (Cell Ages) → Buffers → Buffers
-filledBy chart table buffers = fill chart (lentOf chart table) (tableClasses chart table) buffers
+-- The buffers after an analysis that ended with this table, and after one that did not settle: a plan's table, its chart's block list.
+abbrev pub filledBy : Plan → List ℕ → List (Cell Ages) → Buffers → Buffers
+filledBy plan blocks table buffers = fill blocks (lentOf plan table) (tableClasses plan table) buffers
 
-abbrev pub filledByZeros : Chart → Buffers → Buffers
-filledByZeros chart buffers = fill chart (zeroLent chart) (replicate (classesUsed chart) 0) buffers
+abbrev pub filledByZeros : Plan → List ℕ → Buffers → Buffers
+filledByZeros plan blocks buffers = fill blocks (zeroLent plan) (replicate (classesUsed plan) 0) buffers
 
 -- "An analysis that settles returns its pass count and B." "After 12 the block list is written, the other used parts are zero, and
 -- the pass count is the allowance."
-unfoldable pub finish : Chart → ℕ → Buffers → Outcome Ages → Left
-finish chart allowance buffers (settled passes table) =
+unfoldable pub finish : Plan → List ℕ → ℕ → Buffers → Outcome Ages → Left
+finish plan blocks allowance buffers (settled passes table) =
     record {
-      answer = Settled passes (blockCount chart);
-      buffers = filledBy chart table buffers;
+      answer = Settled passes (plan .blocks);
+      buffers = filledBy plan blocks table buffers;
     }
-finish chart allowance buffers spent =
+finish plan blocks allowance buffers spent =
     record {
-      answer = Refused (Unsettled allowance (blockCount chart));
-      buffers = filledByZeros chart buffers;
+      answer = Unsettled allowance (plan .blocks);
+      buffers = filledByZeros plan blocks buffers;
     }
 
 -- "After 1 to 11 nothing lent has changed."
@@ -97,8 +136,8 @@ refuse buffers refusal = record { answer = Refused refusal; buffers = buffers }
 
 abbrev pub analyseRead : ℕ → Buffers → Read → Left
 analyseRead allowance buffers (accepted chart) =
-    firstRule (refuse buffers) ((buffersShort chart buffers ⇒ ShortBuffer) ∷ [])
-    (finish chart allowance buffers (settle (agesFlow chart) allowance))
+    firstRule (refuse buffers) ((buffersShort (planOf chart) buffers ⇒ ShortBuffer) ∷ [])
+    (finish (planOf chart) (chart .blocks) allowance buffers (settle (agesFlow chart) allowance))
 analyseRead allowance buffers (refused refusal) = refuse buffers refusal
 
 unfoldable pub analysed : List ℕ → ℕ → Buffers → Left

@@ -1,3 +1,2 @@
-pub mod Class
 pub mod Analysis
 pub mod Inner

@@ -1,29 +1,33 @@
 // The lent buffers: whether there is room, the block list, a table cleared and begun.
 ghost use mathlib.Core.Path.{_≡_};
-ghost use Prim.Native.Nat.{_+_, _*_, _≤_, _<_};
+ghost use Prim.Native.Nat.{_≤_, _<_};
 ghost use lib.ListN.{length, getD};
 ghost use Rattle.lists.specs.Loops.{patch};
 ghost use Rattle.chart.specs.Geometry.{mostNodes, mostBlocks};
-ghost use Rattle.tables.specs.Inner.{Roomy};
-ghost use Rattle.tables.specs.Lent.{Lent};
-ghost use Rattle.analysis.specs.Analysis.{Buffers};
-ghost use Rattle.analysis.specs.Inner.{shortBy, cleared, begun, started};
-use chart::Header;
-use chart::Start;
+ghost use Rattle.flow.specs.Pass.{before};
+ghost use Rattle.ages.specs.Plan.{planFlow};
+ghost use Rattle.plan.specs.Listed.{nodesIn, blocksIn, DrawnIn, planAt};
+ghost use Rattle.tables.specs.Lent.{over};
+ghost use Rattle.tables.specs.Contract.{entryTable, exitTable, RoomFor};
+ghost use Rattle.analysis.specs.Analysis.{buffersShort, entryBuffers};
+ghost use Rattle.analysis.specs.Inner.{sized, blankOver};
+use rows::Row;
 
-// Whether a buffer is shorter than a chart of so many nodes and blocks uses.
+// Whether a buffer is shorter than a plan uses.
 pub(crate) fn short_for(
-    nodes: usize,
-    count: usize,
+    plan: &[u16],
     blocks: &[u32],
     must: &[u8],
     may: &[u8],
     marks: &[u8],
     classes: &[u8],
 ) -> bool
-    requires { ⌜ (nodes ≤ mostNodes) × (count ≤ mostBlocks) ⌝ }
-    ensures { λ r. ⌜ r ≡ shortBy nodes count (record { blocks = now (blocks .entry); must = now (must .entry); may = now (may .entry); marks = now (marks .entry); classes = now (classes .entry) }) ⌝ }
+    requires { ⌜ 1 < length (now plan) ⌝ }
+    requires { ⌜ (nodesIn (now plan) ≤ mostNodes) × (blocksIn (now plan) ≤ mostBlocks) ⌝ }
+    ensures { λ r. ⌜ r ≡ buffersShort (sized (now (plan .entry))) (entryBuffers blocks must may marks classes) ⌝ }
 {
+    let nodes = plan::nodes_in(plan);
+    let count = plan::blocks_in(plan);
     let used = nodes * count;
     let table = (must.len() < used) | ((may.len() < used) | (marks.len() < nodes));
     (blocks.len() < count) | (table | (classes.len() < nodes))
@@ -40,54 +44,36 @@ pub(crate) fn write_blocks(list: &[u32], count: usize, blocks: &mut [u32])
 }
 
 // Zeros in every used place of a table.
-pub(crate) fn clear(nodes: usize, count: usize, must: &mut [u8], may: &mut [u8], marks: &mut [u8])
-    requires { ⌜ (nodes ≤ mostNodes) × (count ≤ mostBlocks) ⌝ }
-    requires { ⌜ Roomy nodes count (now must) (now may) (now marks) ⌝ }
-    ensures { λ r. ⌜ record { must = now (must .exit); may = now (may .exit); marks = now (marks .exit) } ≡ cleared nodes count (record { must = now (must .entry); may = now (may .entry); marks = now (marks .entry) }) ⌝ }
+pub(crate) fn clear(plan: &[u16], must: &mut [u8], may: &mut [u8], marks: &mut [u8])
+    requires { ⌜ 1 < length (now plan) ⌝ }
+    requires { ⌜ RoomFor plan must may marks ⌝ }
+    ensures { λ r. ⌜ exitTable must may marks ≡ blankOver (sized (now (plan .entry))) (entryTable must may marks) ⌝ }
 {
-    let used = nodes * count;
+    let nodes = plan::nodes_in(plan);
+    let used = nodes * plan::blocks_in(plan);
     tables::fill(must, 0, used, 0);
     tables::fill(may, 0, used, 0);
     tables::fill(marks, 0, nodes, 0);
 }
 
-// The start in the entry's row, and its mark.
-fn begin(
-    count: usize,
-    entry: usize,
-    ways: u8,
-    start: Start,
-    must: &mut [u8],
-    may: &mut [u8],
-    marks: &mut [u8],
-)
-    requires { ⌜ (entry * count + count ≤ length (now must)) × ((entry * count + count ≤ length (now may)) × (entry < length (now marks))) ⌝ }
-    ensures { λ r. ⌜ record { must = now (must .exit); may = now (may .exit); marks = now (marks .exit) } ≡ begun count entry ways start (record { must = now (must .entry); may = now (may .entry); marks = now (marks .entry) }) ⌝ }
-{
-    let base = entry * count;
-    tables::fill(must, base, count, ways);
-    tables::fill(may, base, count, tables::start_age(start, ways));
-    marks[entry] = 1;
-}
-
-// A table that has only the entry marked, with the start.
+// A table that has only the entry marked, with the start: met into a table without a mark, the start is taken as it is.
 pub(crate) fn start_table(
-    header: Header,
-    count: usize,
+    columns: &[u8],
+    plan: &[u16],
     must: &mut [u8],
     may: &mut [u8],
     marks: &mut [u8],
 )
-    requires { ⌜ (header .nodes ≤ mostNodes) × (count ≤ mostBlocks) ⌝ }
-    requires { ⌜ Roomy (header .nodes) count (now must) (now may) (now marks) ⌝ }
-    requires { ⌜ header .entry < header .nodes ⌝ }
-    ensures { λ r. ⌜ record { must = now (must .exit); may = now (may .exit); marks = now (marks .exit) } ≡ started header count (record { must = now (must .entry); may = now (may .entry); marks = now (marks .entry) }) ⌝ }
+    requires { ⌜ DrawnIn columns plan ⌝ }
+    requires { ⌜ RoomFor plan must may marks ⌝ }
+    ensures { λ r. ⌜ exitTable must may marks ≡ over (planAt columns plan) (before (planFlow (planAt columns plan))) (entryTable must may marks) ⌝ }
 {
-    let geometry = header.geometry;
-    let start = header.start;
-    let nodes = header.nodes;
-    let entry = header.entry;
-    let ways = geometry.ways;
-    clear(nodes, count, must, may, marks);
-    begin(count, entry, ways, start, must, may, marks);
+    let blocks = plan::blocks_in(plan);
+    let entry = plan::entry_in(plan);
+    let empty = plan::empty_in(plan);
+    let start = Row::start(columns, empty);
+    let musts = start.must;
+    let mays = start.may;
+    clear(plan, must, may, marks);
+    tables::meet_row(must, may, marks, blocks, entry, &musts, &mays, false);
 }

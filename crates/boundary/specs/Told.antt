@@ -5,27 +5,31 @@ use mathlib.Core.List.{List, [], _∷_}
 use lib.ListN.{length}
 use lib.Dec.{ltb}
 use Rattle.lists.specs.Lists.{written}
-use Rattle.chart.specs.declared.headers.Start.{Start}
-use Rattle.chart.specs.declared.headers.Start.the-variants.{Unknown, Empty}
 use Rattle.chart.specs.declared.headers.Header.{Header}
+use Rattle.chart.specs.Header.{startCode}
 use Rattle.chart.specs.declared.readings.Verdict.{Verdict}
 use Rattle.chart.specs.declared.readings.Verdict.the-variants.{Accepted, Refused}
-use Rattle.refusals.specs.Refusals.{Said}
+use Rattle.chart.specs.Reading.{ReadSaid}
+use Rattle.analysis.specs.Analysis.{AnalysedSaid}
+use Rattle.checker.specs.Checker.{CheckedSaid}
+use Rattle.totals.specs.Totals.{TotalsSaid}
 
 -- A lent list with numbers told in it: it keeps its tail, and one without room for them stays as it is.
 abbrev pub told : List ℕ → List ℕ → List ℕ
 told numbers lent = cond (ltb (length lent) (length numbers)) lent (written numbers lent)
 
--- Every answer's numbers. Document 01, "When the tool says no": "Every refusal returns its number and place, with pass count, block
--- count and totals 0, save that 12 also returns the allowance and B."
-abbrev pub answerNumbers : Said → List ℕ
-answerNumbers said =
-    said .number ∷ said .place ∷ said .passes ∷ said .blocks ∷ said .yes ∷ said .low ∷ said .high ∷ []
+-- The numbers of each function's answer: the refusal's number and place, then what that function alone returns.
+abbrev pub readNumbers : ReadSaid → List ℕ
+readNumbers said = said .number ∷ said .place ∷ said .blocks ∷ []
 
--- "start: 0 unknown, 1 empty"
-abbrev pub startNumber : Start → ℕ
-startNumber Unknown = 0
-startNumber Empty = 1
+abbrev pub analysedNumbers : AnalysedSaid → List ℕ
+analysedNumbers said = said .number ∷ said .place ∷ said .passes ∷ said .blocks ∷ []
+
+abbrev pub checkedNumbers : CheckedSaid → List ℕ
+checkedNumbers said = said .number ∷ said .place ∷ said .yes ∷ []
+
+abbrev pub totalsNumbers : TotalsSaid → List ℕ
+totalsNumbers said = said .number ∷ said .place ∷ said .low ∷ said .high ∷ []
 
 -- An accepted chart's header: L, S, A, the start, N and the entry, in the order of document 01's table.
 abbrev pub headerNumbers : Header → List ℕ
@@ -33,7 +37,7 @@ headerNumbers header =
     header .geometry .line
     ∷ header .geometry .sets
     ∷ header .geometry .ways
-    ∷ startNumber (header .start)
+    ∷ startCode (header .start)
     ∷ header .nodes
     ∷ header .entry
     ∷ []

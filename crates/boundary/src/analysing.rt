@@ -1,19 +1,28 @@
 // The analysis as a C function.
 ghost use mathlib.Core.Path.{_≡_};
-ghost use Rattle.analysis.specs.Analysis.{analysedSays, analysed};
-ghost use Rattle.boundary.specs.Told.{told, answerNumbers};
-use crate::telling::ANSWER;
-use crate::telling::refused;
+ghost use Rattle.analysis.specs.Analysis.{entryBuffers, exitBuffers, analysedSays, analysed};
+ghost use Rattle.boundary.specs.Told.{told, analysedNumbers};
 use crate::telling::tell;
 use analysis::Analysed;
+use refusals::Refusal;
 
 // The numbers of the analysis's answer.
-fn analysed_numbers(answer: Analysed) -> [u64; ANSWER]
-    ensures { λ r. ⌜ r ≡ answerNumbers (analysedSays answer) ⌝ }
+fn analysed_numbers(answer: Analysed) -> [u64; 4]
+    ensures { λ r. ⌜ r ≡ analysedNumbers (analysedSays answer) ⌝ }
 {
     match answer {
-        Analysed::Settled { passes, blocks } => [0, 0, passes as u64, blocks as u64, 0, 0, 0],
-        Analysed::Refused(refusal) => refused(refusal),
+        Analysed::Settled { passes, blocks } => [0, 0, passes as u64, blocks as u64],
+        Analysed::Unsettled { allowance, blocks } => {
+            let refusal = Refusal::Unsettled;
+            let number = refusal.number();
+            let place = refusal.place() as u64;
+            [number, place, allowance as u64, blocks as u64]
+        }
+        Analysed::Refused(refusal) => {
+            let number = refusal.number();
+            let place = refusal.place() as u64;
+            [number, place, 0, 0]
+        }
     }
 }
 
@@ -29,9 +38,9 @@ pub extern "C" fn veilbuzz_analyse(
     classes: &mut [u8],
     answer: &mut [u64],
 ) -> u64
-    ensures { λ r. ⌜ r ≡ analysedSays (analysed (now (chart .entry)) allowance (record { blocks = now (blocks .entry); must = now (must .entry); may = now (may .entry); marks = now (marks .entry); classes = now (classes .entry) }) .answer) .number ⌝ }
-    ensures { λ r. ⌜ record { blocks = now (blocks .exit); must = now (must .exit); may = now (may .exit); marks = now (marks .exit); classes = now (classes .exit) } ≡ analysed (now (chart .entry)) allowance (record { blocks = now (blocks .entry); must = now (must .entry); may = now (may .entry); marks = now (marks .entry); classes = now (classes .entry) }) .buffers ⌝ }
-    ensures { λ r. ⌜ now (answer .exit) ≡ told (answerNumbers (analysedSays (analysed (now (chart .entry)) allowance (record { blocks = now (blocks .entry); must = now (must .entry); may = now (may .entry); marks = now (marks .entry); classes = now (classes .entry) }) .answer))) (now (answer .entry)) ⌝ }
+    ensures { λ r. ⌜ r ≡ analysedSays (analysed (now (chart .entry)) allowance (entryBuffers blocks must may marks classes) .answer) .number ⌝ }
+    ensures { λ r. ⌜ exitBuffers blocks must may marks classes ≡ analysed (now (chart .entry)) allowance (entryBuffers blocks must may marks classes) .buffers ⌝ }
+    ensures { λ r. ⌜ now (answer .exit) ≡ told (analysedNumbers (analysedSays (analysed (now (chart .entry)) allowance (entryBuffers blocks must may marks classes) .answer))) (now (answer .entry)) ⌝ }
 {
     let given = analysis::analyse(chart, allowance, blocks, must, may, marks, classes);
     let numbers = analysed_numbers(given);

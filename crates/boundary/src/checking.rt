@@ -1,20 +1,23 @@
 // The checker as a C function.
 ghost use mathlib.Core.Path.{_≡_};
+ghost use Rattle.tables.specs.Contract.{entryTable};
 ghost use Rattle.checker.specs.Checker.{checkedSays, checked};
-ghost use Rattle.boundary.specs.Told.{told, answerNumbers};
-use crate::telling::ANSWER;
-use crate::telling::refused;
+ghost use Rattle.boundary.specs.Told.{told, checkedNumbers};
 use crate::telling::tell;
 use checker::Checked;
 
 // The numbers of the checker's answer.
-fn checked_numbers(answer: Checked) -> [u64; ANSWER]
-    ensures { λ r. ⌜ r ≡ answerNumbers (checkedSays answer) ⌝ }
+fn checked_numbers(answer: Checked) -> [u64; 3]
+    ensures { λ r. ⌜ r ≡ checkedNumbers (checkedSays answer) ⌝ }
 {
     match answer {
-        Checked::Passes => [0, 0, 0, 0, 1, 0, 0],
-        Checked::Fails => [0, 0, 0, 0, 0, 0, 0],
-        Checked::Refused(refusal) => refused(refusal),
+        Checked::Passes => [0, 0, 1],
+        Checked::Fails => [0, 0, 0],
+        Checked::Refused(refusal) => {
+            let number = refusal.number();
+            let place = refusal.place() as u64;
+            [number, place, 0]
+        }
     }
 }
 
@@ -27,8 +30,8 @@ pub extern "C" fn veilbuzz_check(
     marks: &[u8],
     answer: &mut [u64],
 ) -> u64
-    ensures { λ r. ⌜ r ≡ checkedSays (checked (now (chart .entry)) (record { must = now (must .entry); may = now (may .entry); marks = now (marks .entry) })) .number ⌝ }
-    ensures { λ r. ⌜ now (answer .exit) ≡ told (answerNumbers (checkedSays (checked (now (chart .entry)) (record { must = now (must .entry); may = now (may .entry); marks = now (marks .entry) })))) (now (answer .entry)) ⌝ }
+    ensures { λ r. ⌜ r ≡ checkedSays (checked (now (chart .entry)) (entryTable must may marks)) .number ⌝ }
+    ensures { λ r. ⌜ now (answer .exit) ≡ told (checkedNumbers (checkedSays (checked (now (chart .entry)) (entryTable must may marks)))) (now (answer .entry)) ⌝ }
 {
     let numbers = checked_numbers(checker::check(chart, must, may, marks));
     tell(&numbers, answer);

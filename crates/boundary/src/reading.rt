@@ -1,30 +1,21 @@
 // The reader as a C function.
 ghost use mathlib.Core.Path.{_≡_};
 ghost use Rattle.chart.specs.Reading.{reading, verdictSays};
-ghost use Rattle.boundary.specs.Told.{told, answerNumbers, startNumber, headerTold};
-use crate::telling::ANSWER;
-use crate::telling::refused;
+ghost use Rattle.boundary.specs.Told.{told, readNumbers, headerTold};
 use crate::telling::tell;
-use chart::Start;
 use chart::Verdict;
 
 // The numbers of the reader's answer.
-fn verdict_numbers(verdict: Verdict) -> [u64; ANSWER]
-    ensures { λ r. ⌜ r ≡ answerNumbers (verdictSays verdict) ⌝ }
+fn verdict_numbers(verdict: Verdict) -> [u64; 3]
+    ensures { λ r. ⌜ r ≡ readNumbers (verdictSays verdict) ⌝ }
 {
     match verdict {
-        Verdict::Accepted(_, blocks) => [0, 0, 0, blocks as u64, 0, 0, 0],
-        Verdict::Refused(refusal) => refused(refusal),
-    }
-}
-
-// Document 01's code of a start.
-fn start_number(start: Start) -> u64
-    ensures { λ r. ⌜ r ≡ startNumber start ⌝ }
-{
-    match start {
-        Start::Unknown => 0,
-        Start::Empty => 1,
+        Verdict::Accepted(_, blocks) => [0, 0, blocks as u64],
+        Verdict::Refused(refusal) => {
+            let number = refusal.number();
+            let place = refusal.place() as u64;
+            [number, place, 0]
+        }
     }
 }
 
@@ -40,7 +31,7 @@ fn tell_header(verdict: Verdict, lent: &mut [u64])
     let line = geometry.line as u64;
     let sets = geometry.sets as u64;
     let ways = geometry.ways as u64;
-    let code = start_number(start);
+    let code = start.code() as u64;
     let nodes = header.nodes as u64;
     let entry = header.entry as u64;
     let numbers = [line, sets, ways, code, nodes, entry];
@@ -52,7 +43,7 @@ fn tell_header(verdict: Verdict, lent: &mut [u64])
 pub extern "C" fn veilbuzz_read(chart: &[u8], header: &mut [u64], answer: &mut [u64]) -> u64
     ensures { λ r. ⌜ r ≡ verdictSays (reading (now (chart .entry)) .verdict) .number ⌝ }
     ensures { λ r. ⌜ now (header .exit) ≡ headerTold (reading (now (chart .entry)) .verdict) (now (header .entry)) ⌝ }
-    ensures { λ r. ⌜ now (answer .exit) ≡ told (answerNumbers (verdictSays (reading (now (chart .entry)) .verdict))) (now (answer .entry)) ⌝ }
+    ensures { λ r. ⌜ now (answer .exit) ≡ told (readNumbers (verdictSays (reading (now (chart .entry)) .verdict))) (now (answer .entry)) ⌝ }
 {
     let verdict = chart::read(chart).verdict;
     tell_header(verdict, header);

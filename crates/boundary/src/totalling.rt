@@ -1,19 +1,22 @@
 // The totals as a C function.
 ghost use mathlib.Core.Path.{_≡_};
-ghost use Rattle.totals.specs.Totals.{totalsSay, totals};
-ghost use Rattle.boundary.specs.Told.{told, answerNumbers};
-use crate::telling::ANSWER;
-use crate::telling::refused;
+ghost use Rattle.tables.specs.Contract.{entryTable};
+ghost use Rattle.totals.specs.Totals.{entryPrices, totalsSay, totals};
+ghost use Rattle.boundary.specs.Told.{told, totalsNumbers};
 use crate::telling::tell;
 use totals::Totals;
 
 // The numbers of the totals' answer.
-fn totals_numbers(answer: Totals) -> [u64; ANSWER]
-    ensures { λ r. ⌜ r ≡ answerNumbers (totalsSay answer) ⌝ }
+fn totals_numbers(answer: Totals) -> [u64; 4]
+    ensures { λ r. ⌜ r ≡ totalsNumbers (totalsSay answer) ⌝ }
 {
     match answer {
-        Totals::Between { low, high } => [0, 0, 0, 0, 0, low, high],
-        Totals::Refused(refusal) => refused(refusal),
+        Totals::Between { low, high } => [0, 0, low, high],
+        Totals::Refused(refusal) => {
+            let number = refusal.number();
+            let place = refusal.place() as u64;
+            [number, place, 0, 0]
+        }
     }
 }
 
@@ -30,8 +33,8 @@ pub extern "C" fn veilbuzz_total(
     ceilings: &[u16],
     answer: &mut [u64],
 ) -> u64
-    ensures { λ r. ⌜ r ≡ totalsSay (totals (now (chart .entry)) (record { must = now (must .entry); may = now (may .entry); marks = now (marks .entry) }) (record { hitCost = hit; missCost = miss; floors = now (floors .entry); ceilings = now (ceilings .entry) })) .number ⌝ }
-    ensures { λ r. ⌜ now (answer .exit) ≡ told (answerNumbers (totalsSay (totals (now (chart .entry)) (record { must = now (must .entry); may = now (may .entry); marks = now (marks .entry) }) (record { hitCost = hit; missCost = miss; floors = now (floors .entry); ceilings = now (ceilings .entry) })))) (now (answer .entry)) ⌝ }
+    ensures { λ r. ⌜ r ≡ totalsSay (totals (now (chart .entry)) (entryTable must may marks) (entryPrices hit miss floors ceilings)) .number ⌝ }
+    ensures { λ r. ⌜ now (answer .exit) ≡ told (totalsNumbers (totalsSay (totals (now (chart .entry)) (entryTable must may marks) (entryPrices hit miss floors ceilings)))) (now (answer .entry)) ⌝ }
 {
     let numbers = totals_numbers(totals::total(
         chart,

@@ -11,6 +11,7 @@ use lib.ListN.{length}
 use Rattle.lists.proofs.Listed.{getD-listOf}
 use Rattle.cache.specs.Ages.{Columns, Ages, ageOf, mustAfter, mayAfter, touchAges, startAges, Tighter}
 use Rattle.cache.specs.Plain.{Cache, touchSet, hits, touch, age, Different, AllOf, Formed}
+use Rattle.cache.specs.Bounds.{Bounds}
 use Rattle.cache.proofs.Growing.{Aged, grown-above, may-grown-below}
 use Rattle.cache.proofs.Places.{age-empty, age-most, age-apart, touched-ages, touched-first, touched-different, touched-own, touched-short, young-has, old-lacks}
 use Rattle.cache.proofs.Touching.{touch-must, touch-may}
@@ -71,18 +72,15 @@ age-bare ways key cache block e = rw e (age-empty (ways (key block)) block)
 
 module _ (columns : Columns) (ways key : ℕ → ℕ) (blockAt : ℕ → ℕ) where
   pub record Named : Type 0 where
-    pub keys : (column : ℕ) → column < columns .count → columns .key column ≡ key (blockAt column)
-    pub limits : (column : ℕ) → column < columns .count → columns .limit column ≡ ways (key (blockAt column))
+    -- two columns have one key exactly if their blocks have
+    pub one-set : (i j : ℕ) → i < columns .count → j < columns .count → columns .key i ≡ columns .key j → key (blockAt i) ≡ key (blockAt j)
+    pub one-key : (i j : ℕ) → i < columns .count → j < columns .count → key (blockAt i) ≡ key (blockAt j) → columns .key i ≡ columns .key j
+    pub must-limits : (column : ℕ) → column < columns .count → columns .mustLimit column ≡ ways (key (blockAt column))
+    pub may-limits : (column : ℕ) → column < columns .count → columns .mayLimit column ≡ ways (key (blockAt column))
     pub apart : (i j : ℕ) → i < columns .count → j < columns .count → blockAt i ≡ blockAt j → i ≡ j
 
-  -- "a must age (upper bound, 0 to A) and a may age (lower bound, 0 to A)", of lists of the plain cache's form.
-  pub record Bounds (a : Ages) (cache : Cache) : Type 0 where
-    pub formed : Formed ways key cache
-    pub must-above : (column : ℕ) → column < columns .count → age ways key cache (blockAt column) ≤ ageOf (a .must) column
-    pub may-below : (column : ℕ) → column < columns .count → ageOf (a .may) column ≤ age ways key cache (blockAt column)
-
   -- A row that allows more bounds as well.
-  pub bounds-weaker : (a b : Ages) (cache : Cache) → Tighter columns a b → Bounds a cache → Bounds b cache
+  pub bounds-weaker : (a b : Ages) (cache : Cache) → Tighter columns a b → Bounds columns ways key blockAt a cache → Bounds columns ways key blockAt b cache
   bounds-weaker a b cache tighter bounds =
       record {
         formed = bounds .formed;
@@ -91,20 +89,20 @@ module _ (columns : Columns) (ways key : ℕ → ℕ) (blockAt : ℕ → ℕ) wh
       }
 
   -- The start bounds what it allows: anything, or, where it is empty, lists that are.
-  pub start-bounds : Named → (empty : Bool) (cache : Cache) → Formed ways key cache → (empty ≡ true → (set : ℕ) → cache set ≡ []) → Bounds (startAges columns empty) cache
+  pub start-bounds : Named → (empty : Bool) (cache : Cache) → Formed ways key cache → (empty ≡ true → (set : ℕ) → cache set ≡ []) → Bounds columns ways key blockAt (startAges columns empty) cache
   unfolding startAges
   start-bounds named empty cache formed bare =
       record {
         formed = formed;
-        must-above = λ column h. omega (arith, getD-listOf (columns .count) (columns .limit) 0 column h, named .limits column h, age-limit ways key cache (blockAt column));
-        may-below = λ column h. rw (getD-listOf (columns .count) (λ i. cond empty (columns .limit i) 0) 0 column h) (least empty bare column h);
+        must-above = λ column h. omega (arith, getD-listOf (columns .count) (columns .mustLimit) 0 column h, named .must-limits column h, age-limit ways key cache (blockAt column));
+        may-below = λ column h. rw (getD-listOf (columns .count) (λ i. cond empty (columns .mayLimit i) 0) 0 column h) (least empty bare column h);
       }
     where
-      least : (t : Bool) → (t ≡ true → (set : ℕ) → cache set ≡ []) → (column : ℕ) → column < columns .count → cond t (columns .limit column) 0 ≤ age ways key cache (blockAt column)
-      least true bare column h = omega (arith, named .limits column h, age-bare ways key cache (blockAt column) (bare refl (key (blockAt column))))
+      least : (t : Bool) → (t ≡ true → (set : ℕ) → cache set ≡ []) → (column : ℕ) → column < columns .count → cond t (columns .mayLimit column) 0 ≤ age ways key cache (blockAt column)
+      least true bare column h = omega (arith, named .may-limits column h, age-bare ways key cache (blockAt column) (bare refl (key (blockAt column))))
       least false bare column h = zero-le
 
-  module _ (named : Named) (m : ℕ) (inside : m < columns .count) (a : Ages) (cache : Cache) (bounds : Bounds a cache) where
+  module _ (named : Named) (m : ℕ) (inside : m < columns .count) (a : Ages) (cache : Cache) (bounds : Bounds columns ways key blockAt a cache) where
     abbrev after : Cache
     after = touch ways key (blockAt m) cache
 
@@ -116,10 +114,10 @@ module _ (columns : Columns) (ways key : ℕ → ℕ) (blockAt : ℕ → ℕ) wh
       other-block other e = other (named .apart column m h inside e)
 
       same-key : columns .key column ≡ columns .key m → key block ≡ key (blockAt m)
-      same-key e = sym (named .keys column h) ∙ e ∙ named .keys m inside
+      same-key e = named .one-set column m h inside e
 
       other-key : (columns .key column ≡ columns .key m → ⊥) → key block ≡ key (blockAt m) → ⊥
-      other-key other e = other (named .keys column h ∙ e ∙ sym (named .keys m inside))
+      other-key other e = other (named .one-key column m h inside e)
 
       must-after : age ways key after block ≤ mustAfter (columns .key) m (ageOf (a .must)) column
       unfolding mustAfter
@@ -134,21 +132,21 @@ module _ (columns : Columns) (ways key : ℕ → ℕ) (blockAt : ℕ → ℕ) wh
               rw (ne-eqb column m p, ne-eqb (columns .key column) (columns .key m) e, age-other-set ways key (blockAt m) cache block (other-key e))
               (bounds .must-above column h)
 
-      may-after : mayAfter (columns .key) (columns .limit) m (ageOf (a .may)) column ≤ age ways key after block
+      may-after : mayAfter (columns .key) (columns .mayLimit) m (ageOf (a .may)) column ≤ age ways key after block
       unfolding mayAfter
       may-after = go (ℕ-discrete column m) (ℕ-discrete (columns .key column) (columns .key m))
         where
-          go : Dec (column ≡ m) → Dec (columns .key column ≡ columns .key m) → mayAfter (columns .key) (columns .limit) m (ageOf (a .may)) column ≤ age ways key after block
+          go : Dec (column ≡ m) → Dec (columns .key column ≡ columns .key m) → mayAfter (columns .key) (columns .mayLimit) m (ageOf (a .may)) column ≤ age ways key after block
           go (yes e) d = rw (eq-eqb column m e) zero-le
           go (no p) (yes e) =
-              rw (ne-eqb column m p, eq-eqb (columns .key column) (columns .key m) e, named .limits column h)
+              rw (ne-eqb column m p, eq-eqb (columns .key column) (columns .key m) e, named .may-limits column h)
               (may-grown-below _ _ _ (age-same-set ways key (blockAt m) cache block (other-block p) (same-key e)) _ _ _ (bounds .may-below m inside) (bounds .may-below column h) (age-limit ways key cache block) (age-absent ways key (blockAt m) cache block (other-block p) (same-key e)))
           go (no p) (no e) =
               rw (ne-eqb column m p, ne-eqb (columns .key column) (columns .key m) e, age-other-set ways key (blockAt m) cache block (other-key e))
               (bounds .may-below column h)
 
     -- One touch.
-    pub touch-bounds : Bounds (touchAges columns m a) after
+    pub touch-bounds : Bounds columns ways key blockAt (touchAges columns m a) after
     touch-bounds =
         record {
           formed = touch-formed ways key (blockAt m) cache (bounds .formed);
@@ -157,13 +155,13 @@ module _ (columns : Columns) (ways key : ℕ → ℕ) (blockAt : ℕ → ℕ) wh
         }
 
     -- A must age below the limit is a hit.
-    pub young-hits : ageOf (a .must) m < columns .limit m → hits key (blockAt m) cache ≡ true
+    pub young-hits : ageOf (a .must) m < columns .mustLimit m → hits key (blockAt m) cache ≡ true
     unfolding hits age
     young-hits young =
-        young-has (ways (key (blockAt m))) (blockAt m) (cache (key (blockAt m))) (omega (arith, bounds .must-above m inside, named .limits m inside))
+        young-has (ways (key (blockAt m))) (blockAt m) (cache (key (blockAt m))) (omega (arith, bounds .must-above m inside, named .must-limits m inside))
 
-    -- A may age at the limit is a miss.
-    pub old-misses : ageOf (a .may) m ≡ columns .limit m → hits key (blockAt m) cache ≡ false
+    -- A may age at the must limit is a miss.
+    pub old-misses : ageOf (a .may) m ≡ columns .mustLimit m → hits key (blockAt m) cache ≡ false
     unfolding hits age
     old-misses old =
-        old-lacks (ways (key (blockAt m))) (blockAt m) (cache (key (blockAt m))) (bounds .formed .short (key (blockAt m))) (omega (arith, bounds .may-below m inside, named .limits m inside))
+        old-lacks (ways (key (blockAt m))) (blockAt m) (cache (key (blockAt m))) (bounds .formed .short (key (blockAt m))) (omega (arith, bounds .may-below m inside, named .must-limits m inside))

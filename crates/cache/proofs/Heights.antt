@@ -14,12 +14,12 @@ use Rattle.cache.proofs.Meeting.{meet-within, meet-left}
 
 module _ (columns : Columns) where
   abbrev heightAt : Ages → ℕ → ℕ
-  heightAt a block = ageOf (a .must) block + (columns .limit block - ageOf (a .may) block)
+  heightAt a block = ageOf (a .must) block + (columns .mayLimit block - ageOf (a .may) block)
 
   unfoldable pub height : Ages → ℕ
   height a = sumOf (columns .count) (heightAt a)
 
-  pub height-most : (most : ℕ) → ((block : ℕ) → block < columns .count → columns .limit block ≤ most) → (a : Ages) → Within columns a → height a ≤ columns .count * (2 * most)
+  pub height-most : (most : ℕ) → ((block : ℕ) → block < columns .count → (columns .mustLimit block ≤ most) × (columns .mayLimit block ≤ most)) → (a : Ages) → Within columns a → height a ≤ columns .count * (2 * most)
   unfolding height
   height-most most limits a w = sum-most (columns .count) (2 * most) (heightAt a) (λ block h. omega (arith, limits block h, w .must-most block h))
 

@@ -54,8 +54,8 @@ pub start-within : (columns : Columns) (empty : Bool) → Within columns (startA
 unfolding startAges
 start-within columns empty =
     record {
-      must-long = length-listOf (columns .count) (columns .limit);
-      may-long = length-listOf (columns .count) (λ block. cond empty (columns .limit block) 0);
-      must-most = λ block h. omega (arith, getD-listOf (columns .count) (columns .limit) 0 block h);
-      may-most = λ block h. rw (getD-listOf (columns .count) (λ i. cond empty (columns .limit i) 0) 0 block h) (start-may-within empty (columns .limit block));
+      must-long = length-listOf (columns .count) (columns .mustLimit);
+      may-long = length-listOf (columns .count) (λ block. cond empty (columns .mayLimit block) 0);
+      must-most = λ block h. omega (arith, getD-listOf (columns .count) (columns .mustLimit) 0 block h);
+      may-most = λ block h. rw (getD-listOf (columns .count) (λ i. cond empty (columns .mayLimit i) 0) 0 block h) (start-may-within empty (columns .mayLimit block));
     }

@@ -53,18 +53,18 @@ module _ (key : ℕ → ℕ) (m block : ℕ) where
 
 -- ---- a state
 
--- The columns of one set have one limit.
+-- The columns of one set have one must limit.
 abbrev pub LimitOfSet : Columns → Type 0
-LimitOfSet columns = (i j : ℕ) → columns .key i ≡ columns .key j → columns .limit i ≡ columns .limit j
+LimitOfSet columns = (i j : ℕ) → i < columns .count → j < columns .count → columns .key i ≡ columns .key j → columns .mustLimit i ≡ columns .mustLimit j
 
 module _ (columns : Columns) (m : ℕ) where
   pub touch-must : (a : Ages) (block : ℕ) → block < columns .count → ageOf (touchAges columns m a .must) block ≡ mustAfter (columns .key) m (ageOf (a .must)) block
   unfolding touchAges
   touch-must a block h = getD-listOf (columns .count) (mustAfter (columns .key) m (ageOf (a .must))) 0 block h
 
-  pub touch-may : (a : Ages) (block : ℕ) → block < columns .count → ageOf (touchAges columns m a .may) block ≡ mayAfter (columns .key) (columns .limit) m (ageOf (a .may)) block
+  pub touch-may : (a : Ages) (block : ℕ) → block < columns .count → ageOf (touchAges columns m a .may) block ≡ mayAfter (columns .key) (columns .mayLimit) m (ageOf (a .may)) block
   unfolding touchAges
-  touch-may a block h = getD-listOf (columns .count) (mayAfter (columns .key) (columns .limit) m (ageOf (a .may))) 0 block h
+  touch-may a block h = getD-listOf (columns .count) (mayAfter (columns .key) (columns .mayLimit) m (ageOf (a .may))) 0 block h
 
   module _ (inside : m < columns .count) where
     pub touch-within : LimitOfSet columns → (a : Ages) → Within columns a → Within columns (touchAges columns m a)
@@ -72,11 +72,11 @@ module _ (columns : Columns) (m : ℕ) where
     touch-within one a w =
         record {
           must-long = length-listOf (columns .count) (mustAfter (columns .key) m (ageOf (a .must)));
-          may-long = length-listOf (columns .count) (mayAfter (columns .key) (columns .limit) m (ageOf (a .may)));
+          may-long = length-listOf (columns .count) (mayAfter (columns .key) (columns .mayLimit) m (ageOf (a .may)));
           must-most = λ block h. rw (touch-must a block h)
-              (must-within (columns .key) m block (columns .limit block) (ageOf (a .must)) (w .must-most block h) (λ e. omega (arith, one block m e, w .must-most m inside)));
+              (must-within (columns .key) m block (columns .mustLimit block) (ageOf (a .must)) (w .must-most block h) (λ e. omega (arith, one block m h inside e, w .must-most m inside)));
           may-most = λ block h. rw (touch-may a block h)
-              (may-within (columns .key) m block (columns .limit) (ageOf (a .may)) (w .may-most block h));
+              (may-within (columns .key) m block (columns .mayLimit) (ageOf (a .may)) (w .may-most block h));
         }
 
     pub touch-monotone : (a b : Ages) → Within columns b → Tighter columns a b → Tighter columns (touchAges columns m a) (touchAges columns m b)
@@ -85,5 +85,5 @@ module _ (columns : Columns) (m : ℕ) where
           must-less = λ block h. rw (touch-must a block h, touch-must b block h)
               (must-monotone (columns .key) m block (ageOf (a .must)) (ageOf (b .must)) (t .must-less m inside) (t .must-less block h));
           may-more = λ block h. rw (touch-may a block h, touch-may b block h)
-              (may-monotone (columns .key) m block (ageOf (b .may)) (ageOf (a .may)) (t .may-more m inside) (t .may-more block h) (columns .limit) (w .may-most block h));
+              (may-monotone (columns .key) m block (ageOf (b .may)) (ageOf (a .may)) (t .may-more m inside) (t .may-more block h) (columns .mayLimit) (w .may-most block h));
         }

@@ -1,18 +1,20 @@
 -- Must and may ages of one touch, their meeting and their start. Document 01, "Ages and equations".
 -- A row has an age for each of `count` columns. A column stands for a block, by its place in the chart's list, and is known here by its
--- set key and by its limit, the age of a block that is absent (document 01's A).
+-- set key, which two columns share exactly if their blocks are of one set, and by the most that its must and its may age can be (document
+-- 01's A for both: the age of a block that is absent).
 use Prim.Native.Nat.{ℕ, suc, _≤_, _<_, min, max}
 use mathlib.Core.Path.{_≡_}
-use mathlib.Core.Bool.{Bool, true, false, cond, _&&_}
-use mathlib.Core.List.{List, [], _∷_}
+use mathlib.Core.Bool.{Bool, cond, _&&_}
+use mathlib.Core.List.{List}
 use lib.ListN.{getD, length}
 use lib.Dec.{eqb, ltb, leb}
-use Rattle.lists.specs.Lists.{listOf}
+use Rattle.lists.specs.Lists.{listOf, sameRow}
 
 pub record Columns : Type 0 where
   pub count : ℕ
   pub key : ℕ → ℕ
-  pub limit : ℕ → ℕ
+  pub mustLimit : ℕ → ℕ
+  pub mayLimit : ℕ → ℕ
 
 -- "for each chart block a must age (upper bound, 0 to A) and a may age (lower bound, 0 to A)"
 pub record Ages : Type 0 where
@@ -44,12 +46,6 @@ mayAfter key limit m age column =
 
 -- ---- the same on rows
 
-abbrev pub sameRow : List ℕ → List ℕ → Bool
-sameRow [] [] = true
-sameRow [] (y ∷ ys) = false
-sameRow (x ∷ xs) [] = false
-sameRow (x ∷ xs) (y ∷ ys) = eqb x y && sameRow xs ys
-
 unfoldable pub sameAges : Ages → Ages → Bool
 sameAges a b = sameRow (a .must) (b .must) && sameRow (a .may) (b .may)
 
@@ -58,7 +54,7 @@ module _ (columns : Columns) where
   touchAges m a =
       record {
         must = listOf (columns .count) (mustAfter (columns .key) m (ageOf (a .must)));
-        may = listOf (columns .count) (mayAfter (columns .key) (columns .limit) m (ageOf (a .may)));
+        may = listOf (columns .count) (mayAfter (columns .key) (columns .mayLimit) m (ageOf (a .may)));
       }
 
   -- "Meeting: must takes the larger, may the smaller."
@@ -73,8 +69,8 @@ module _ (columns : Columns) where
   unfoldable pub startAges : Bool → Ages
   startAges empty =
       record {
-        must = listOf (columns .count) (columns .limit);
-        may = listOf (columns .count) (λ column. cond empty (columns .limit column) 0);
+        must = listOf (columns .count) (columns .mustLimit);
+        may = listOf (columns .count) (λ column. cond empty (columns .mayLimit column) 0);
       }
 
   -- ---- which rows are rows of a table, and which of two is tighter
@@ -83,8 +79,8 @@ module _ (columns : Columns) where
   pub record Within (a : Ages) : Type 0 where
     pub must-long : length (a .must) ≡ columns .count
     pub may-long : length (a .may) ≡ columns .count
-    pub must-most : (column : ℕ) → column < columns .count → ageOf (a .must) column ≤ columns .limit column
-    pub may-most : (column : ℕ) → column < columns .count → ageOf (a .may) column ≤ columns .limit column
+    pub must-most : (column : ℕ) → column < columns .count → ageOf (a .must) column ≤ columns .mustLimit column
+    pub may-most : (column : ℕ) → column < columns .count → ageOf (a .may) column ≤ columns .mayLimit column
 
   -- "must ages no less and may ages no more": those of b than those of a
   pub record Tighter (a b : Ages) : Type 0 where

@@ -1,2 +1,3 @@
 pub mod Plain
 pub mod Ages
+pub mod Bounds

@@ -7,6 +7,7 @@ use native.Mathlib.Omega.{arith}
 use lib.ListN.{length}
 use Rattle.lists.specs.Lists.{padded}
 use Rattle.lists.proofs.Lists.{length-padded}
+use Rattle.blocks.specs.Listing.{Ascending}
 use Rattle.chart.specs.declared.headers.Header.{Header}
 use Rattle.chart.specs.declared.readings.Reading.{Reading}
 use Rattle.chart.specs.declared.readings.Verdict.the-variants as verdict
@@ -14,7 +15,7 @@ use Rattle.refusals.specs.declared.Refusal.{Refusal}
 use Rattle.chart.specs.Geometry.{mostNodes, mostBlocks, mostSetBits}
 use Rattle.chart.specs.Chart.{Chart, Read, accepted, refused, readChart, chartIn, blockCount}
 use Rattle.chart.specs.Reading.{readingOf, reading}
-use Rattle.chart.specs.Inner.{Found, Ascending}
+use Rattle.chart.specs.Inner.{Found}
 use Rattle.chart.specs.Layout.{chartLength}
 use Rattle.chart.proofs.Accepted.{accepted-chart, accepted-nodes, accepted-sets, accepted-entry, accepted-length, accepted-few, accepted-ascending}
 

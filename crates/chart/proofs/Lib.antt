@@ -1,10 +1,5 @@
 pub mod Numbers
-pub mod Search
-pub mod Insertion
-pub mod Shift
-pub mod Arrays
+pub mod Rules
 pub mod Reader
-pub mod Placed
 pub mod Accepted
-pub mod Nodes
 pub mod Answers

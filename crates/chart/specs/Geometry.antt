@@ -1,8 +1,9 @@
 -- The cache's shape and its limits. Document 01, "What a chart carries".
-use Prim.Native.Nat.{ℕ, _/_, _%_, _^_}
+use Prim.Native.Nat.{ℕ, _+_, _*_, _/_, _%_, _^_}
 use mathlib.Core.Bool.{Bool, _&&_}
 use lib.Dec.{leb}
 use Rattle.chart.specs.declared.shape.Geometry.{Geometry}
+use Rattle.chart.specs.Layout.{chartLength}
 
 -- "The largest node, block and way counts belong to the geometry's type and are named once": the constants of `Geometry`. These are the
 -- same numbers for definitions, which cannot name a constant of the source; code that differs from them is not proved.
@@ -14,6 +15,17 @@ mostBlocks = 64
 
 abbrev pub mostWays : ℕ
 mostWays = 8
+
+-- What follows of them: "a chart of up to 2,056 bytes"
+abbrev pub longestChart : ℕ
+longestChart = chartLength mostNodes
+
+-- "It is at most N(1 + 2BA) + 1 with B blocks; for 256 nodes, 64 blocks and 8 ways that is 262,401."
+abbrev pub passesFor : ℕ → ℕ → ℕ → ℕ
+passesFor nodes blocks ways = nodes * (1 + 2 * blocks * ways) + 1
+
+abbrev pub allPasses : ℕ
+allPasses = passesFor mostNodes mostBlocks mostWays
 
 -- The most that S may be: there are 2^S sets.
 abbrev pub mostSetBits : ℕ

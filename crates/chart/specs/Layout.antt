@@ -22,13 +22,13 @@ recordWord bytes n = wordAt bytes (n + 1)
 abbrev pub chartLength : ℕ → ℕ
 chartLength nodes = 8 + 8 * nodes
 
-abbrev pub total : List ℕ → ℕ
-total [] = 0
-total (width ∷ widths) = width + total widths
+abbrev pub widthsTotal : List ℕ → ℕ
+widthsTotal [] = 0
+widthsTotal (width ∷ widths) = width + widthsTotal widths
 
 -- Field k of a word, where the fields have these widths: as many bits stand behind it as the fields after it have.
 abbrev pub field : List ℕ → ℕ → ℕ → ℕ
-field widths k word = word / 2 ^ total (drop (suc k) widths) % 2 ^ getD widths k 0
+field widths k word = word / 2 ^ widthsTotal (drop (suc k) widths) % 2 ^ getD widths k 0
 
 -- The header's fields: edition, L, S, A, start, spare, N, entry, spare.
 abbrev pub headerWidths : List ℕ

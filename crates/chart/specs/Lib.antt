@@ -2,7 +2,6 @@ pub mod Layout
 pub mod Geometry
 pub mod Header
 pub mod Record
-pub mod Blocks
 pub mod Chart
 pub mod Reading
 pub mod Inner

@@ -7,7 +7,7 @@ use Rattle.chart.specs.declared.readings.Reading.{Reading}
 use Rattle.chart.specs.declared.readings.Verdict.{Verdict}
 use Rattle.chart.specs.declared.readings.Verdict.the-variants.{Accepted, Refused}
 use Rattle.chart.specs.Geometry.{mostBlocks}
-use Rattle.refusals.specs.Refusals.{Said, answerWith, refusalSays}
+use Rattle.refusals.specs.Refusals.{numberOf, placeOf}
 use Rattle.chart.specs.Chart.{Read, accepted, refused, readChart}
 
 -- The header, the number of blocks and the blocks, zeros after them; after a refusal zeros only.
@@ -19,10 +19,16 @@ readingOf (accepted chart) =
     }
 readingOf (refused refusal) = record { verdict = Refused refusal; blocks = replicate mostBlocks 0 }
 
--- This paper's number and values for each answer.
-abbrev pub verdictSays : Verdict → Said
-verdictSays (Accepted header blocks) = answerWith 0 blocks 0 0 0
-verdictSays (Refused refusal) = refusalSays refusal
+-- The answer in numbers: number and place, both 0 for no refusal, then B.
+pub record ReadSaid : Type 0 where
+  pub number : ℕ
+  pub place : ℕ
+  pub blocks : ℕ
+
+-- "Every refusal returns its number and place, with .. block count .. 0".
+abbrev pub verdictSays : Verdict → ReadSaid
+verdictSays (Accepted header blocks) = record { number = 0; place = 0; blocks = blocks }
+verdictSays (Refused refusal) = record { number = numberOf refusal; place = placeOf refusal; blocks = 0 }
 
 abbrev pub reading : List ℕ → Reading
 reading bytes = readingOf (readChart bytes)

@@ -1,18 +1,43 @@
 // The header: the cache's shape, the start, the number of nodes and the entry.
 ghost use mathlib.Core.Path.{_≡_};
-ghost use lib.ListN.{length};
+ghost use mathlib.Core.Bool.{true};
 ghost use Rattle.lists.specs.Choice.{firstRule};
 ghost use Rattle.chart.specs.Geometry.{shapeAllowed};
-ghost use Rattle.chart.specs.Header.{geometryOf, startOf, headerOf, wordRules, headerRead};
+ghost use Rattle.chart.specs.Header.{headerFields, geometryOf, startOf, startCode, headerOf, headerRules, headerRead};
 use crate::shape::Geometry;
 use crate::words::bits;
 use crate::words::word_at;
 use refusals::Refusal;
 
+// The header's fields. They are as wide as a word, so that the rules can be asked of values that do not fit their field.
+pub struct HeaderFields {
+    pub edition: u64,
+    pub line: u64,
+    pub sets: u64,
+    pub ways: u64,
+    pub start: u64,
+    pub first_spare: u64,
+    pub nodes: u64,
+    pub entry: u64,
+    pub second_spare: u64,
+}
+
 // What the cache holds when a walk begins.
 pub enum Start {
     Unknown,
     Empty,
+}
+
+impl Start {
+    // Its code in the header.
+    pub fn code(self) -> u16
+        ensures { λ r. ⌜ r ≡ startCode self ⌝ }
+    {
+        match self {
+            Start::Unknown => 0,
+            Start::Empty => 1,
+        }
+    }
 }
 
 pub struct Header {
@@ -27,23 +52,41 @@ pub enum HeaderRead {
     Refused(Refusal),
 }
 
-fn shape_allowed(geometry: Geometry) -> bool
-    ensures { λ r. ⌜ r ≡ shapeAllowed geometry ⌝ }
+// The fields in the chart's first word.
+fn header_fields(word: u64) -> HeaderFields
+    ensures { λ r. ⌜ r ≡ headerFields word ⌝ }
 {
-    let line = geometry.line;
-    let sets = geometry.sets;
-    let ways = geometry.ways;
-    ((Geometry::LINE_FROM <= line) & (line <= Geometry::LINE_TO))
-        & ((sets <= Geometry::SETS_TO) & ((1 <= ways) & (ways <= Geometry::WAYS)))
+    HeaderFields {
+        edition: bits(word, 56, 8),
+        line: bits(word, 52, 4),
+        sets: bits(word, 48, 4),
+        ways: bits(word, 44, 4),
+        start: bits(word, 42, 2),
+        first_spare: bits(word, 32, 10),
+        nodes: bits(word, 20, 12),
+        entry: bits(word, 8, 12),
+        second_spare: bits(word, 0, 8),
+    }
 }
 
-fn geometry_of(word: u64) -> Geometry
-    ensures { λ r. ⌜ r ≡ geometryOf word ⌝ }
+fn shape_allowed(fields: HeaderFields) -> bool
+    ensures { λ r. ⌜ r ≡ shapeAllowed (geometryOf fields) ⌝ }
+{
+    let line = fields.line;
+    let sets = fields.sets;
+    let ways = fields.ways;
+    ((Geometry::LINE_FROM as u64 <= line) & (line <= Geometry::LINE_TO as u64))
+        & ((sets <= Geometry::SETS_TO as u64) & ((1 <= ways) & (ways <= Geometry::WAYS as u64)))
+}
+
+fn geometry_of(fields: HeaderFields) -> Geometry
+    requires { ⌜ shapeAllowed (geometryOf fields) ≡ true ⌝ }
+    ensures { λ r. ⌜ r ≡ geometryOf fields ⌝ }
 {
     Geometry {
-        line: bits(word, 52, 4) as u8,
-        sets: bits(word, 48, 4) as u8,
-        ways: bits(word, 44, 4) as u8,
+        line: fields.line as u8,
+        sets: fields.sets as u8,
+        ways: fields.ways as u8,
     }
 }
 
@@ -57,44 +100,45 @@ fn start_of(code: u64) -> Start
     }
 }
 
-// The header in the chart's first word, or the first of refusals 2 to 8 that applies; `size` is the chart's length.
-fn header_of(word: u64, size: usize) -> HeaderRead
-    ensures { λ r. ⌜ r ≡ firstRule HeaderRead.Refused (wordRules word size) (HeaderRead.Accepted (headerOf word)) ⌝ }
+// The header of these fields, or the first of refusals 2 to 8 that applies; `long` says whether the length is the one for them.
+fn header_of(fields: HeaderFields, long: bool) -> HeaderRead
+    ensures { λ r. ⌜ r ≡ firstRule HeaderRead.Refused (headerRules fields long) (HeaderRead.Accepted (headerOf fields)) ⌝ }
 {
-    if bits(word, 56, 8) != 1 {
+    let edition = fields.edition;
+    if edition != 1 {
         return HeaderRead::Refused(Refusal::Edition);
     }
-    let geometry = geometry_of(word);
-    let allowed = shape_allowed(geometry);
+    let allowed = shape_allowed(fields);
     if !allowed {
         return HeaderRead::Refused(Refusal::Shape);
     }
-    let code = bits(word, 42, 2);
+    let code = fields.start;
     if 1 < code {
         return HeaderRead::Refused(Refusal::StartCode);
     }
-    let nodes = bits(word, 20, 12) as usize;
-    let counted = (1 <= nodes) & (nodes <= Geometry::NODES);
+    let nodes = fields.nodes;
+    let counted = (1 <= nodes) & (nodes <= Geometry::NODES as u64);
     if !counted {
         return HeaderRead::Refused(Refusal::NodeCount);
     }
-    let entry = bits(word, 8, 12) as usize;
+    let entry = fields.entry;
     if nodes <= entry {
         return HeaderRead::Refused(Refusal::EntryNode);
     }
-    let clear = (bits(word, 32, 10) == 0) & (bits(word, 0, 8) == 0);
+    let clear = (fields.first_spare == 0) & (fields.second_spare == 0);
     if !clear {
         return HeaderRead::Refused(Refusal::SpareBits);
     }
-    if size != 8 + 8 * nodes {
+    if !long {
         return HeaderRead::Refused(Refusal::Length);
     }
+    let geometry = geometry_of(fields);
     let start = start_of(code);
     HeaderRead::Accepted(Header {
         geometry: geometry,
         start: start,
-        nodes: nodes,
-        entry: entry,
+        nodes: nodes as usize,
+        entry: entry as usize,
     })
 }
 
@@ -105,5 +149,7 @@ pub fn read_header(chart: &[u8]) -> HeaderRead
     if chart.len() < 8 {
         return HeaderRead::Refused(Refusal::TooShort);
     }
-    header_of(word_at(chart, 0), chart.len())
+    let fields = header_fields(word_at(chart, 0));
+    let nodes = fields.nodes as usize;
+    header_of(fields, chart.len() == 8 + 8 * nodes)
 }

@@ -1,12 +1,11 @@
 // The reader as a whole.
 ghost use mathlib.Core.Path.{_≡_};
 ghost use lib.ListN.{length};
-ghost use Rattle.lists.specs.Choice.{firstRule};
 ghost use Rattle.chart.specs.Layout.{chartLength};
-ghost use Rattle.chart.specs.Chart.{accepted, refused, recordRules, chartOf};
+ghost use Rattle.chart.specs.Chart.{refused, recordsIn, recordsRead};
 ghost use Rattle.chart.specs.Reading.{readingOf, reading};
-use crate::blocks::Gathered;
-use crate::blocks::gather;
+use crate::gathering::Gathered;
+use crate::gathering::gather;
 use crate::headers::Header;
 use crate::headers::HeaderRead;
 use crate::headers::read_header;
@@ -38,7 +37,7 @@ fn refuse(refusal: Refusal) -> Reading
 // The records under a header, or the first of refusals 9 and 10 that applies.
 fn read_records(chart: &[u8], header: Header) -> Reading
     requires { ⌜ length (now chart) ≡ chartLength (header .nodes) ⌝ }
-    ensures { λ r. ⌜ r ≡ readingOf (firstRule refused (recordRules (now (chart .entry)) header) (accepted (chartOf (now (chart .entry)) header))) ⌝ }
+    ensures { λ r. ⌜ r ≡ readingOf (recordsRead (recordsIn (now (chart .entry))) header) ⌝ }
 {
     let geometry = header.geometry;
     let nodes = header.nodes;

@@ -1,12 +1,22 @@
 // A node's record: what it does, where its arrows lead, and whether it keeps its rules.
 ghost use mathlib.Core.Path.{_≡_};
-ghost use Prim.Native.Nat.{_+_, _≤_};
+ghost use Prim.Native.Nat.{_+_, _^_, _≤_, _<_};
 ghost use lib.ListN.{length};
 ghost use Rattle.chart.specs.Layout.{chartLength};
-ghost use Rattle.chart.specs.Record.{arrowKeeps, recordKeeps, recordOf, nodeOf};
-ghost use Rattle.chart.specs.Chart.{nodeRead, firstBroken};
+ghost use Rattle.chart.specs.Record.{recordFields, arrowKeeps, recordKeeps, recordOf, nodeOf};
+ghost use Rattle.chart.specs.Chart.{recordsIn, nodeAt, firstBroken};
 use crate::words::bits;
 use crate::words::word_at;
+
+// A record's fields. They are as wide as a word, so that the rules can be asked of values that do not fit their field.
+pub struct RecordFields {
+    pub kind: u64,
+    pub address: u64,
+    pub outs: u64,
+    pub first: u64,
+    pub second: u64,
+    pub spare: u64,
+}
 
 pub struct Reference {
     pub write: bool,
@@ -18,86 +28,112 @@ pub enum Record {
     Reference(Reference),
 }
 
-pub struct Node {
-    pub what: Record,
+// How many arrows lead out of a node, and where to.
+pub struct Targets {
     pub outs: usize,
     pub first: usize,
     pub second: usize,
 }
 
-// A node, or that the bytes end before its record does.
-pub enum NodeRead {
-    Found(Node),
-    Missing,
+pub struct Node {
+    pub what: Record,
+    pub targets: Targets,
 }
 
-// What the record in a word does.
-pub(crate) fn record_of(word: u64) -> Record
-    ensures { λ r. ⌜ r ≡ recordOf word ⌝ }
+// The fields of the record in a word.
+fn record_fields(word: u64) -> RecordFields
+    ensures { λ r. ⌜ r ≡ recordFields word ⌝ }
 {
-    let kind = bits(word, 62, 2);
+    RecordFields {
+        kind: bits(word, 62, 2),
+        address: bits(word, 30, 32),
+        outs: bits(word, 28, 2),
+        first: bits(word, 16, 12),
+        second: bits(word, 4, 12),
+        spare: bits(word, 0, 4),
+    }
+}
+
+// The fields of record n of any bytes that hold it.
+fn fields_at(chart: &[u8], n: usize) -> RecordFields
+    requires { ⌜ chartLength (n + 1) ≤ length (now chart) ⌝ }
+    ensures { λ r. ⌜ r ≡ recordsIn (now (chart .entry)) n ⌝ }
+{
+    record_fields(word_at(chart, n + 1))
+}
+
+// What the record of these fields does.
+fn record_of(fields: RecordFields) -> Record
+    requires { ⌜ fields .address < 2 ^ 32 ⌝ }
+    ensures { λ r. ⌜ r ≡ recordOf fields ⌝ }
+{
+    let kind = fields.kind;
     if kind == 0 {
         return Record::Step;
     }
     Record::Reference(Reference {
         write: kind == 2,
-        address: bits(word, 30, 32) as u32,
+        address: fields.address as u32,
     })
 }
 
-// The node whose record is in a word.
-fn node_of(word: u64) -> Node
-    ensures { λ r. ⌜ r ≡ nodeOf word ⌝ }
+// The node whose record has these fields.
+fn node_of(fields: RecordFields) -> Node
+    requires { ⌜ fields .address < 2 ^ 32 ⌝ }
+    ensures { λ r. ⌜ r ≡ nodeOf fields ⌝ }
 {
+    let what = record_of(fields);
     Node {
-        what: record_of(word),
-        outs: bits(word, 28, 2) as usize,
-        first: bits(word, 16, 12) as usize,
-        second: bits(word, 4, 12) as usize,
+        what: what,
+        targets: Targets {
+            outs: fields.outs as usize,
+            first: fields.first as usize,
+            second: fields.second as usize,
+        },
     }
 }
 
-// The node whose record is number n of any bytes, whether or not it keeps its rules.
-pub fn read_node(chart: &[u8], n: usize) -> NodeRead
-    ensures { λ r. ⌜ r ≡ nodeRead (now (chart .entry)) n ⌝ }
+// The node whose record is number n of any bytes that hold it, whether or not it keeps its rules.
+pub fn node_at(chart: &[u8], n: usize) -> Node
+    requires { ⌜ chartLength (n + 1) ≤ length (now chart) ⌝ }
+    ensures { λ r. ⌜ r ≡ nodeAt (now (chart .entry)) n ⌝ }
 {
-    let words = chart.len() / 8;
-    if words < 2 {
-        return NodeRead::Missing;
-    }
-    if words - 1 <= n {
-        return NodeRead::Missing;
-    }
-    NodeRead::Found(node_of(word_at(chart, n + 1)))
+    node_of(fields_at(chart, n))
 }
 
 // Whether an arrow that is used leads below `nodes`, and one that is not is 0.
-fn arrow_keeps(nodes: usize, used: bool, target: usize) -> bool
+fn arrow_keeps(nodes: usize, used: bool, target: u64) -> bool
     ensures { λ r. ⌜ r ≡ arrowKeeps nodes used target ⌝ }
 {
-    if used { target < nodes } else { target == 0 }
+    if used {
+        target < nodes as u64
+    } else {
+        target == 0
+    }
 }
 
-// Whether the record in a word keeps the rules of a chart of so many nodes.
-fn record_keeps(nodes: usize, word: u64) -> bool
-    ensures { λ r. ⌜ r ≡ recordKeeps nodes word ⌝ }
+// Whether a record of these fields keeps the rules of a chart of so many nodes.
+fn record_keeps(nodes: usize, fields: RecordFields) -> bool
+    ensures { λ r. ⌜ r ≡ recordKeeps nodes fields ⌝ }
 {
-    let kind = bits(word, 62, 2);
-    let outs = bits(word, 28, 2);
-    let addressed = (kind != 0) | (bits(word, 30, 32) == 0);
-    let first = arrow_keeps(nodes, 0 < outs, bits(word, 16, 12) as usize);
-    let second = arrow_keeps(nodes, 1 < outs, bits(word, 4, 12) as usize);
-    let clear = bits(word, 0, 4) == 0;
-    (kind <= 2) & (addressed & ((outs <= 2) & (first & (second & clear))))
+    let kind = fields.kind;
+    let address = fields.address;
+    let outs = fields.outs;
+    let first = arrow_keeps(nodes, 0 < outs, fields.first);
+    let second = arrow_keeps(nodes, 1 < outs, fields.second);
+    let fits = address < 4294967296;
+    let addressed = (kind != 0) | (address == 0);
+    let clear = fields.spare == 0;
+    (kind <= 2) & (fits & (addressed & ((outs <= 2) & (first & (second & clear)))))
 }
 
 // The first node whose record breaks its rules, or `nodes`.
 pub(crate) fn first_broken(chart: &[u8], nodes: usize) -> usize
     requires { ⌜ chartLength nodes ≤ length (now chart) ⌝ }
-    ensures { λ r. ⌜ r ≡ firstBroken (now (chart .entry)) nodes ⌝ }
+    ensures { λ r. ⌜ r ≡ firstBroken (recordsIn (now (chart .entry))) nodes ⌝ }
 {
     for n in 0..nodes {
-        let keeps = record_keeps(nodes, word_at(chart, n + 1));
+        let keeps = record_keeps(nodes, fields_at(chart, n));
         if !keeps {
             return n;
         }

@@ -17,6 +17,14 @@ impl Geometry {
 
     pub const WAYS: u8 = 8;
 
+    // What follows of them: the most ages of one kind, the bytes of the longest chart, and the passes that are enough for every chart.
+    pub const AGES: usize = Geometry::NODES * Geometry::BLOCKS;
+
+    pub const LONGEST: usize = 8 + 8 * Geometry::NODES;
+
+    pub const PASSES: usize = Geometry::NODES * (1 + 2 * Geometry::BLOCKS * Geometry::WAYS as usize)
+        + 1;
+
     // The least and the most that a line's and the sets' exponents may be.
     pub const LINE_FROM: u8 = 2;
 

@@ -1,28 +1,37 @@
--- What an answer of the checker says of the table, for an accepted chart.
+-- What an answer of the checker says of the table.
 use Prim.Native.Nat.{ℕ}
 use mathlib.Core.Bool.{Bool, true, false, cond}
 use mathlib.Core.List.{List}
-use mathlib.Core.Path.{_≡_, refl}
+use mathlib.Core.Path.{_≡_, refl, ap}
 use native.Mathlib.Omega.{arith}
-use Rattle.chart.specs.declared.headers.Header.{Header}
 use Rattle.refusals.specs.declared.Refusal.{Refusal}
 use Rattle.refusals.specs.declared.Refusal.the-variants.{ShortBuffer}
-use Rattle.chart.specs.Chart.{Chart, accepted, readChart, chartIn}
-use Rattle.chart.specs.Inner.{Found}
+use Rattle.chart.specs.Chart.{Chart, accepted, readChart}
+use Rattle.ages.specs.Plan.{Plan}
+use Rattle.ages.specs.Charted.{planOf}
+use Rattle.plan.specs.Listed.{planIn}
+use Rattle.drawing.specs.Drawing.{Draws}
 use Rattle.tables.specs.Lent.{Lent, tableShort}
-use Rattle.tables.specs.Inner.{Roomy}
-use Rattle.tables.proofs.Laid.{long-enough}
 use Rattle.checker.specs.declared.Checked.{Checked}
 use Rattle.checker.specs.declared.Checked.the-variants.{Passes, Fails, Refused}
-use Rattle.checker.specs.Checker.{passes, checked}
+use Rattle.checker.specs.Checker.{passes, checkedBy, checked}
 
 -- By whether the table is short, and whether it passes.
 abbrev pub answerOf : Bool → Bool → Checked
 answerOf short passing = cond short (Refused ShortBuffer) (cond passing Passes Fails)
 
-pub checked-accepted : (bytes : List ℕ) (chart : Chart) (table : Lent) → readChart bytes ≡ accepted chart → checked bytes table ≡ answerOf (tableShort chart table) (passes chart table)
+pub checked-by : (plan : Plan) (lent : Lent) → checkedBy plan lent ≡ answerOf (tableShort plan lent) (passes plan lent)
+unfolding checkedBy
+checked-by plan lent = refl
+
+pub checked-accepted : (bytes : List ℕ) (chart : Chart) (lent : Lent) → readChart bytes ≡ accepted chart → checked bytes lent ≡ answerOf (tableShort (planOf chart) lent) (passes (planOf chart) lent)
 unfolding checked
-checked-accepted bytes chart table read = rw read
+checked-accepted bytes chart lent read = rw read (checked-by (planOf chart) lent)
+
+-- The answer for a plan that was drawn of bytes is the answer for the bytes.
+pub checked-drawn : {bytes columns plan : List ℕ} {chart : Chart} (lent : Lent) → Draws bytes columns plan → readChart bytes ≡ accepted chart → checkedBy (planIn columns plan) lent ≡ checked bytes lent
+unfolding checked
+checked-drawn {chart = chart} lent draws read = rw read (ap (λ (plan : Plan). checkedBy plan lent) (draws .plan-is chart read))
 
 pub short-only : (refusal : Refusal) (short passing : Bool) → answerOf short passing ≡ Refused refusal → (short ≡ true) × (refusal ≡ ShortBuffer)
 short-only refusal true passing e = (refl, cc)
@@ -38,10 +47,3 @@ pub passes-only : (short passing : Bool) → answerOf short passing ≡ Passes �
 passes-only true passing e = let z : _≡_ {A = ℕ} 0 1 = cc in absurd (omega arith)
 passes-only false true e = (refl, refl)
 passes-only false false e = let z : _≡_ {A = ℕ} 0 1 = cc in absurd (omega arith)
-
--- A table that is not short has room for what the reader found.
-pub found-roomy : {bytes : List ℕ} {header : Header} {count : ℕ} {array : List ℕ} (found : Found bytes header count array) (lent : Lent) → tableShort (chartIn bytes) lent ≡ false
-    → Roomy (header .nodes) count (lent .must) (lent .may) (lent .marks)
-found-roomy {bytes} found lent e =
-    let long = long-enough (chartIn bytes) lent e in
-    rw (found .header-is, found .count-is) (record { must-room = long .0; may-room = long .1 .0; marks-room = long .1 .1 })

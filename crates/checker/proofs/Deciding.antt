@@ -1,6 +1,6 @@
 -- The checker's tests decide whether a lent table passes.
 use Prim.Native.Nat.{ℕ, _≤_, _<_}
-use mathlib.Core.Bool.{Bool, true, false, not, _&&_, _||_}
+use mathlib.Core.Bool.{Bool, true, false, not, _&&_}
 use mathlib.Core.List.{List, [], _∷_}
 use mathlib.Core.Logic.{inl, inr, ⊎-elim}
 use mathlib.Core.Path.{_≡_, refl, sym, ap, _∙_, subst}
@@ -9,18 +9,18 @@ use borrow.Author.Tests.{leb-true, le-leb, eqb-true, eq-eqb, not-true, not-false
 use lib.Dec.{leb, eqb}
 use lib.ListN.{length, getD, replicate, length-replicate, getD-replicate}
 use lib.Seq.{ext-getD}
+use Rattle.lists.specs.Lists.{Among}
 use Rattle.lists.specs.Choice.{every}
 use Rattle.lists.proofs.Choice.{and-true, true-and, or-true, true-or, every-all, all-every}
 use Rattle.lists.proofs.Listed.{length-listOf}
 use Rattle.lists.proofs.Orders.{below-or}
-use Rattle.chart.specs.Chart.{Chart, arrows, blockCount}
-use Rattle.cache.specs.Ages.{Ages, ageOf, Within, Tighter}
-use Rattle.flow.specs.Flow.{Cell, blank, holds, cellAt, Among}
+use Rattle.cache.specs.Ages.{Columns, Ages, ageOf, Within, Tighter}
+use Rattle.flow.specs.Flow.{Cell, blank, holds, cellAt}
 use Rattle.flow.specs.Passing.{CellBelow, CellOk, leaving, Passing}
-use Rattle.tables.specs.AgesFlow.{agesFlow, columns}
+use Rattle.ages.specs.Plan.{Plan, columnsOf, arrowsIn, planFlow, Sound}
 use Rattle.tables.specs.Lent.{Lent, agesAt, tableOf, tableShort, TablePasses}
 use Rattle.tables.proofs.Laid.{shaped-tableOf, tableOf-at, tableOf-past, long-enough, not-short}
-use Rattle.checker.specs.Checker.{marked, everyOf, marksPlain, agesFit, unmarkedZero, allows, entryAllows, arrowsAllow, passes}
+use Rattle.checker.specs.Checker.{fits, zeroed, covers, marked, everyOf, allows, markPlain, agesFit, unmarkedZero, entryAllows, arrowsAllow, nodePasses, passes}
 
 -- ---- tests
 
@@ -58,175 +58,177 @@ zero-row row count e h =
 
 -- ---- the ages of one row
 
-module _ (chart : Chart) where
-  -- Must ages no less and may ages no more, tested.
-  abbrev near : Ages → Ages → Bool
-  near a b =
-      every (blockCount chart)
-      (λ block. leb (ageOf (a .must) block) (ageOf (b .must) block) && leb (ageOf (b .may) block) (ageOf (a .may) block))
+module _ (columns : Columns) where
+  covers-tighter : (a b : Ages) → covers (columns .count) a b ≡ true → Tighter columns a b
+  covers-tighter a b e =
+      let most = every-most (columns .count) (ageOf (a .must)) (ageOf (b .must)) (ageOf (b .may)) (ageOf (a .may)) e in
+      record { must-less = λ column h. most column h .0; may-more = λ column h. most column h .1 }
 
-  near-tighter : (a b : Ages) → near a b ≡ true → Tighter (columns chart) a b
-  near-tighter a b e =
-      let most = every-most (blockCount chart) (ageOf (a .must)) (ageOf (b .must)) (ageOf (b .may)) (ageOf (a .may)) e in
-      record { must-less = λ block h. most block h .0; may-more = λ block h. most block h .1 }
+  tighter-covers : (a b : Ages) → Tighter columns a b → covers (columns .count) a b ≡ true
+  tighter-covers a b t =
+      most-every (columns .count) (ageOf (a .must)) (ageOf (b .must)) (ageOf (b .may)) (ageOf (a .may)) (t .must-less) (t .may-more)
 
-  tighter-near : (a b : Ages) → Tighter (columns chart) a b → near a b ≡ true
-  tighter-near a b t =
-      most-every (blockCount chart) (ageOf (a .must)) (ageOf (b .must)) (ageOf (b .may)) (ageOf (a .may)) (t .must-less) (t .may-more)
-
-  -- "ages at most A", tested.
-  abbrev fits : Ages → Bool
-  fits a =
-      every (blockCount chart)
-      (λ block. leb (ageOf (a .must) block) (columns chart .limit block) && leb (ageOf (a .may) block) (columns chart .limit block))
-
-  within-fits : (a : Ages) → Within (columns chart) a → fits a ≡ true
+  within-fits : (a : Ages) → Within columns a → fits columns a ≡ true
   within-fits a w =
-      most-every (blockCount chart) (ageOf (a .must)) (columns chart .limit) (ageOf (a .may)) (columns chart .limit) (w .must-most) (w .may-most)
+      most-every (columns .count) (ageOf (a .must)) (columns .mustLimit) (ageOf (a .may)) (columns .mayLimit) (w .must-most) (w .may-most)
 
-  fits-within : (lent : Lent) (n : ℕ) → fits (agesAt chart lent n) ≡ true → Within (columns chart) (agesAt chart lent n)
-  fits-within lent n e =
-      let a = agesAt chart lent n in
-      let most = every-most (blockCount chart) (ageOf (a .must)) (columns chart .limit) (ageOf (a .may)) (columns chart .limit) e in
-      record {
-        must-long = length-listOf (blockCount chart) _;
-        may-long = length-listOf (blockCount chart) _;
-        must-most = λ block h. most block h .0;
-        may-most = λ block h. most block h .1;
-      }
+  fits-within : (a : Ages) → length (a .must) ≡ columns .count → length (a .may) ≡ columns .count → fits columns a ≡ true → Within columns a
+  fits-within a must may e =
+      let most = every-most (columns .count) (ageOf (a .must)) (columns .mustLimit) (ageOf (a .may)) (columns .mayLimit) e in
+      record { must-long = must; may-long = may; must-most = λ column h. most column h .0; may-most = λ column h. most column h .1 }
 
-  -- Rows "all 0", tested.
+module _ (count : ℕ) where
   abbrev zeros : Ages
-  zeros = record { must = replicate (blockCount chart) 0; may = replicate (blockCount chart) 0 }
+  zeros = record { must = replicate count 0; may = replicate count 0 }
 
-  abbrev zeroed : Ages → Bool
-  zeroed a = every (blockCount chart) (λ block. eqb (ageOf (a .must) block) 0 && eqb (ageOf (a .may) block) 0)
-
-  zeroed-zeros : (lent : Lent) (n : ℕ) → zeroed (agesAt chart lent n) ≡ true → agesAt chart lent n ≡ zeros
-  zeroed-zeros lent n e =
-      let a = agesAt chart lent n in
-      let both = every-both (blockCount chart) (λ k. eqb (ageOf (a .must) k) 0) (λ k. eqb (ageOf (a .may) k) 0) e in
+  zeroed-zeros : (a : Ages) → length (a .must) ≡ count → length (a .may) ≡ count → zeroed count a ≡ true → a ≡ zeros
+  zeroed-zeros a must may e =
+      let both = every-both count (λ k. eqb (ageOf (a .must) k) 0) (λ k. eqb (ageOf (a .may) k) 0) e in
       λ i. record {
-        must = zero-row (a .must) (blockCount chart) (length-listOf (blockCount chart) _) (λ k h. eqb-true (ageOf (a .must) k) 0 (both k h .0)) i;
-        may = zero-row (a .may) (blockCount chart) (length-listOf (blockCount chart) _) (λ k h. eqb-true (ageOf (a .may) k) 0 (both k h .1)) i;
+        must = zero-row (a .must) count must (λ k h. eqb-true (ageOf (a .must) k) 0 (both k h .0)) i;
+        may = zero-row (a .may) count may (λ k h. eqb-true (ageOf (a .may) k) 0 (both k h .1)) i;
       }
 
-  zeros-zeroed : zeroed zeros ≡ true
-  zeros-zeroed =
-      both-every (blockCount chart) (λ k. eqb (ageOf (zeros .must) k) 0) (λ k. eqb (ageOf (zeros .may) k) 0) zero zero
+  zeros-zeroed : zeroed count zeros ≡ true
+  zeros-zeroed = both-every count (λ k. eqb (ageOf (zeros .must) k) 0) (λ k. eqb (ageOf (zeros .may) k) 0) zero zero
     where
-      zero : (k : ℕ) → k < blockCount chart → eqb (ageOf (replicate (blockCount chart) 0) k) 0 ≡ true
-      zero k h = eq-eqb (ageOf (replicate (blockCount chart) 0) k) 0 (getD-replicate (blockCount chart) k 0 0 h)
+      zero : (k : ℕ) → k < count → eqb (ageOf (replicate count 0) k) 0 ≡ true
+      zero k h = eq-eqb (ageOf (replicate count 0) k) 0 (getD-replicate count k 0 0 h)
 
-  zeros-fit : fits zeros ≡ true
-  zeros-fit = most-every (blockCount chart) (ageOf (zeros .must)) (columns chart .limit) (ageOf (zeros .may)) (columns chart .limit) none none
-    where
-      none : (k : ℕ) → k < blockCount chart → ageOf (replicate (blockCount chart) 0) k ≤ columns chart .limit k
-      none k h = omega (arith, getD-replicate {A = ℕ} (blockCount chart) k 0 0 h)
+zeros-fit : (columns : Columns) → fits columns (zeros (columns .count)) ≡ true
+zeros-fit columns =
+    most-every (columns .count) _ (columns .mustLimit) _ (columns .mayLimit) (least (columns .mustLimit)) (least (columns .mayLimit))
+  where
+    least : (limit : ℕ → ℕ) (k : ℕ) → k < columns .count → ageOf (replicate (columns .count) 0) k ≤ limit k
+    least limit k h = omega (arith, getD-replicate {A = ℕ} (columns .count) k 0 0 h)
 
 -- ---- cells
 
-module _ (chart : Chart) (lent : Lent) where
+module _ (plan : Plan) (lent : Lent) where
   abbrev table : List (Cell Ages)
-  table = tableOf chart lent
+  table = tableOf plan lent
 
-  marked-holds : (n : ℕ) → n < chart .header .nodes → marked lent n ≡ true → cellAt table n ≡ holds (agesAt chart lent n)
-  marked-holds n h e = tableOf-at chart lent n h ∙ (rw (not-true (eqb (getD (lent .marks) n 0) 0) e))
+  marked-holds : (n : ℕ) → n < plan .nodes → marked lent n ≡ true → cellAt table n ≡ holds (agesAt plan lent n)
+  marked-holds n h e = tableOf-at plan lent n h ∙ (rw (not-true (eqb (getD (lent .marks) n 0) 0) e))
 
   unmarked-blank : (n : ℕ) → marked lent n ≡ false → cellAt table n ≡ blank
   unmarked-blank n e =
-      ⊎-elim (λ h. tableOf-at chart lent n h ∙ (rw (not-false (eqb (getD (lent .marks) n 0) 0) e))) (λ h. tableOf-past chart lent n h) (below-or n (chart .header .nodes))
+      ⊎-elim (λ h. tableOf-at plan lent n h ∙ (rw (not-false (eqb (getD (lent .marks) n 0) 0) e))) (λ h. tableOf-past plan lent n h) (below-or n (plan .nodes))
 
   -- A property of every cell: of blank ones, and of the rows of marked nodes.
-  cells : (Q : ℕ → Cell Ages → Type 0) → ((n : ℕ) → Q n blank) → ((n : ℕ) → n < chart .header .nodes → marked lent n ≡ true → Q n (holds (agesAt chart lent n)))
+  cells : (Q : ℕ → Cell Ages → Type 0) → ((n : ℕ) → Q n blank) → ((n : ℕ) → n < plan .nodes → marked lent n ≡ true → Q n (holds (agesAt plan lent n)))
       → (n : ℕ) → Q n (cellAt table n)
   cells Q none some n =
-      ⊎-elim (λ h. inside h (marked lent n) refl) (λ h. subst (Q n) (sym (tableOf-past chart lent n h)) (none n)) (below-or n (chart .header .nodes))
+      ⊎-elim (λ h. inside h (marked lent n) refl) (λ h. subst (Q n) (sym (tableOf-past plan lent n h)) (none n)) (below-or n (plan .nodes))
     where
-      inside : n < chart .header .nodes → (m : Bool) → marked lent n ≡ m → Q n (cellAt table n)
+      inside : n < plan .nodes → (m : Bool) → marked lent n ≡ m → Q n (cellAt table n)
       inside h false e = subst (Q n) (sym (unmarked-blank n e)) (none n)
       inside h true e = subst (Q n) (sym (marked-holds n h e)) (some n h e)
 
-  allows-below : (a : Ages) (t : ℕ) → t < chart .header .nodes → allows chart lent a t ≡ true → CellBelow (agesFlow chart) (holds a) (cellAt table t)
+  allows-below : (a : Ages) (t : ℕ) → t < plan .nodes → allows (plan .blocks) lent a t ≡ true → CellBelow (planFlow plan) (holds a) (cellAt table t)
   allows-below a t h e =
-      let both = and-true (marked lent t) (near chart a (agesAt chart lent t)) e in
-      subst (CellBelow (agesFlow chart) (holds a)) (sym (marked-holds t h (both .0))) (near-tighter chart a (agesAt chart lent t) (both .1))
+      let both = and-true (marked lent t) (covers (plan .blocks) a (agesAt plan lent t)) e in
+      subst (CellBelow (planFlow plan) (holds a)) (sym (marked-holds t h (both .0))) (covers-tighter (columnsOf plan) a (agesAt plan lent t) (both .1))
 
-  below-allows : (a : Ages) (t : ℕ) → CellBelow (agesFlow chart) (holds a) (cellAt table t) → allows chart lent a t ≡ true
+  below-allows : (a : Ages) (t : ℕ) → CellBelow (planFlow plan) (holds a) (cellAt table t) → allows (plan .blocks) lent a t ≡ true
   below-allows a t b =
-      cells (λ t c. CellBelow (agesFlow chart) (holds a) c → allows chart lent a t ≡ true) (λ t b. absurd b)
-      (λ t h e b. true-and (marked lent t) (near chart a (agesAt chart lent t)) e (tighter-near chart a (agesAt chart lent t) b))
+      cells (λ t c. CellBelow (planFlow plan) (holds a) c → allows (plan .blocks) lent a t ≡ true) (λ t b. absurd b)
+      (λ t h e b. true-and (marked lent t) (covers (plan .blocks) a (agesAt plan lent t)) e (tighter-covers (columnsOf plan) a (agesAt plan lent t) b))
       t
       b
 
 -- ---- from the tests to the equations
 
-module _ (chart : Chart) (lent : Lent) (entry-in : chart .header .entry < chart .header .nodes) (arrows-in : (n t : ℕ) → n < chart .header .nodes → Among t (arrows chart n) → t < chart .header .nodes) where
-  abbrev rowAllows : ℕ → Bool
-  rowAllows n = everyOf (allows chart lent (agesFlow chart .step n (agesAt chart lent n))) (arrows chart n)
+-- What the tests of one node say.
+record NodeTests (plan : Plan) (lent : Lent) (n : ℕ) : Type 0 where
+  plain : markPlain plan lent n ≡ true
+  fit : agesFit plan lent n ≡ true
+  zero : unmarkedZero plan lent n ≡ true
+  out : arrowsAllow plan lent n ≡ true
 
-  row-allows : arrowsAllow chart lent ≡ true → (n : ℕ) → n < chart .header .nodes → marked lent n ≡ true → rowAllows n ≡ true
-  row-allows out n h e =
-      or-true (not (marked lent n)) (rowAllows n) (every-all (chart .header .nodes) (λ n. not (marked lent n) || rowAllows n) out n h) (ap not e)
+module _ (plan : Plan) (lent : Lent) (sound : Sound plan) where
+  abbrev stepped : ℕ → Ages
+  stepped n = planFlow plan .step n (agesAt plan lent n)
 
-  tests-equations : agesFit chart lent ≡ true → entryAllows chart lent ≡ true → arrowsAllow chart lent ≡ true → Passing (agesFlow chart) (tableOf chart lent)
-  tests-equations fit entry out =
-      record {
-        long = shaped-tableOf chart lent .long;
-        fine = cells chart lent (λ n c. CellOk (agesFlow chart) c) (λ n. tt) (λ n h e. fits-within chart lent n (every-all (chart .header .nodes) (λ n. fits chart (agesAt chart lent n)) fit n h));
-        begun = allows-below chart lent (agesFlow chart .start) (chart .header .entry) entry-in entry;
-        closed = λ n t i.
-            cells chart lent (λ n c. Among t (arrows chart n) → CellBelow (agesFlow chart) (leaving (agesFlow chart) n c) (cellAt (tableOf chart lent) t)) (λ n i. tt)
-            (λ n h e i. allows-below chart lent (agesFlow chart .step n (agesAt chart lent n)) t (arrows-in n t h i) (everyOf-all _ (arrows chart n) (row-allows out n h e) t i))
-            n
-            i;
-      }
+  node-tests : every (plan .nodes) (nodePasses plan lent) ≡ true → (n : ℕ) → n < plan .nodes → NodeTests plan lent n
+  node-tests e n h =
+      let one = and-true (markPlain plan lent n) _ (every-all (plan .nodes) (nodePasses plan lent) e n h) in
+      let two = and-true (agesFit plan lent n) _ (one .1) in
+      let three = and-true (unmarkedZero plan lent n) _ (two .1) in
+      record { plain = one .0; fit = two .0; zero = three .0; out = three .1 }
+
+  module _ (begins : entryAllows plan lent ≡ true) (tests : (n : ℕ) → n < plan .nodes → NodeTests plan lent n) where
+    arrow-below : (n t : ℕ) → n < plan .nodes → marked lent n ≡ true → Among t (arrowsIn plan n) → CellBelow (planFlow plan) (holds (stepped n)) (cellAt (tableOf plan lent) t)
+    arrow-below n t h e i =
+        let all = or-true (not (marked lent n)) (everyOf (allows (plan .blocks) lent (stepped n)) (arrowsIn plan n)) (tests n h .out) (ap not e) in
+        allows-below plan lent (stepped n) t (sound .arrows-in n t h i) (everyOf-all _ (arrowsIn plan n) all t i)
+
+    tests-equations : Passing (planFlow plan) (tableOf plan lent)
+    tests-equations =
+        record {
+          long = shaped-tableOf plan lent .long;
+          fine = cells plan lent (λ n c. CellOk (planFlow plan) c) (λ n. tt) (λ n h e. fits-within (columnsOf plan) (agesAt plan lent n) (length-listOf (plan .blocks) _) (length-listOf (plan .blocks) _) (tests n h .fit));
+          begun = allows-below plan lent (planFlow plan .start) (plan .entry) (sound .entry-in) begins;
+          closed = λ n t i.
+              cells plan lent (λ n c. Among t (arrowsIn plan n) → CellBelow (planFlow plan) (leaving (planFlow plan) n c) (cellAt (tableOf plan lent) t)) (λ n i. tt)
+              (λ n h e i. arrow-below n t h e i)
+              n
+              i;
+        }
+
+    unmarked-row : (n : ℕ) → n < plan .nodes → getD (lent .marks) n 0 ≡ 0 → agesAt plan lent n ≡ zeros (plan .blocks)
+    unmarked-row n h z =
+        zeroed-zeros (plan .blocks) (agesAt plan lent n) (length-listOf (plan .blocks) _) (length-listOf (plan .blocks) _)
+        (or-true (marked lent n) _ (tests n h .zero) (ap not (eq-eqb (getD (lent .marks) n 0) 0 z)))
 
   -- A table that is long enough and passes the tests passes.
-  pub passes-yes : tableShort chart lent ≡ false → passes chart lent ≡ true → TablePasses chart lent
+  pub passes-yes : tableShort plan lent ≡ false → passes plan lent ≡ true → TablePasses plan lent
   unfolding passes
   passes-yes short e =
-      let long = long-enough chart lent short in
-      let one = and-true (marksPlain chart lent) _ e in
-      let two = and-true (agesFit chart lent) _ (one .1) in
-      let three = and-true (unmarkedZero chart lent) _ (two .1) in
-      let four = and-true (entryAllows chart lent) _ (three .1) in
+      let long = long-enough plan lent short in
+      let both = and-true (entryAllows plan lent) _ e in
+      let tests = node-tests (both .1) in
       record {
         must-long = long .0;
         may-long = long .1 .0;
         marks-long = long .1 .1;
-        marks-plain = λ n h. leb-true (getD (lent .marks) n 0) 1 (every-all (chart .header .nodes) (λ n. leb (getD (lent .marks) n 0) 1) (one .0) n h);
-        unmarked-zero = λ n h z. zeroed-zeros chart lent n (or-true (marked lent n) (zeroed chart (agesAt chart lent n)) (every-all (chart .header .nodes) (λ n. marked lent n || zeroed chart (agesAt chart lent n)) (three .0) n h) (ap not (eq-eqb (getD (lent .marks) n 0) 0 z)));
-        equations = tests-equations (two .0) (four .0) (four .1);
+        marks-plain = λ n h. leb-true (getD (lent .marks) n 0) 1 (tests n h .plain);
+        unmarked-zero = unmarked-row (both .0) tests;
+        equations = tests-equations (both .0) tests;
       }
 
 -- ---- from the equations to the tests
 
-module _ (chart : Chart) (lent : Lent) (p : TablePasses chart lent) where
-  unmarked-zeros : (n : ℕ) → n < chart .header .nodes → marked lent n ≡ false → agesAt chart lent n ≡ zeros chart
+module _ (plan : Plan) (lent : Lent) (p : TablePasses plan lent) where
+  unmarked-zeros : (n : ℕ) → n < plan .nodes → marked lent n ≡ false → agesAt plan lent n ≡ zeros (plan .blocks)
   unmarked-zeros n h e = p .unmarked-zero n h (eqb-true (getD (lent .marks) n 0) 0 (not-false _ e))
 
-  row-fits : (n : ℕ) → n < chart .header .nodes → fits chart (agesAt chart lent n) ≡ true
+  row-fits : (n : ℕ) → n < plan .nodes → agesFit plan lent n ≡ true
   row-fits n h = go (marked lent n) refl
     where
-      go : (m : Bool) → marked lent n ≡ m → fits chart (agesAt chart lent n) ≡ true
-      go false e = ap (fits chart) (unmarked-zeros n h e) ∙ zeros-fit chart
-      go true e = within-fits chart (agesAt chart lent n) (subst (CellOk (agesFlow chart)) (marked-holds chart lent n h e) (p .equations .fine n))
+      go : (m : Bool) → marked lent n ≡ m → agesFit plan lent n ≡ true
+      go false e = ap (fits (columnsOf plan)) (unmarked-zeros n h e) ∙ zeros-fit (columnsOf plan)
+      go true e = within-fits (columnsOf plan) (agesAt plan lent n) (subst (CellOk (planFlow plan)) (marked-holds plan lent n h e) (p .equations .fine n))
 
-  row-lets : (n : ℕ) → n < chart .header .nodes → marked lent n ≡ true → (t : ℕ) → Among t (arrows chart n) → allows chart lent (agesFlow chart .step n (agesAt chart lent n)) t ≡ true
+  row-lets : (n : ℕ) → n < plan .nodes → marked lent n ≡ true → (t : ℕ) → Among t (arrowsIn plan n)
+      → allows (plan .blocks) lent (planFlow plan .step n (agesAt plan lent n)) t ≡ true
   row-lets n h e t i =
-      below-allows chart lent (agesFlow chart .step n (agesAt chart lent n)) t
-      (subst (λ (c : Cell Ages). CellBelow (agesFlow chart) (leaving (agesFlow chart) n c) (cellAt (tableOf chart lent) t)) (marked-holds chart lent n h e) (p .equations .closed n t i))
+      below-allows plan lent (planFlow plan .step n (agesAt plan lent n)) t
+      (subst (λ (c : Cell Ages). CellBelow (planFlow plan) (leaving (planFlow plan) n c) (cellAt (tableOf plan lent) t)) (marked-holds plan lent n h e) (p .equations .closed n t i))
+
+  node-passes : (n : ℕ) → n < plan .nodes → nodePasses plan lent n ≡ true
+  node-passes n h =
+      true-and (markPlain plan lent n) _ (le-leb (getD (lent .marks) n 0) 1 (p .marks-plain n h))
+      (true-and (agesFit plan lent n) _ (row-fits n h)
+      (true-and (unmarkedZero plan lent n) _ (true-or (marked lent n) _ (λ e. ap (zeroed (plan .blocks)) (unmarked-zeros n h e) ∙ zeros-zeroed (plan .blocks)))
+      (true-or (not (marked lent n)) _ (λ e. all-everyOf _ (arrowsIn plan n) (row-lets n h (not-false (marked lent n) e))))))
 
   -- A table that passes is long enough and passes the tests.
-  pub yes-long : tableShort chart lent ≡ false
-  yes-long = not-short chart lent (p .must-long) (p .may-long) (p .marks-long)
+  pub yes-long : tableShort plan lent ≡ false
+  yes-long = not-short plan lent (p .must-long) (p .may-long) (p .marks-long)
 
-  pub yes-passes : passes chart lent ≡ true
+  pub yes-passes : passes plan lent ≡ true
   unfolding passes
   yes-passes =
-      true-and (marksPlain chart lent) _ (all-every (chart .header .nodes) (λ n. leb (getD (lent .marks) n 0) 1) (λ n h. le-leb (getD (lent .marks) n 0) 1 (p .marks-plain n h)))
-      (true-and (agesFit chart lent) _ (all-every (chart .header .nodes) (λ n. fits chart (agesAt chart lent n)) row-fits)
-      (true-and (unmarkedZero chart lent) _ (all-every (chart .header .nodes) (λ n. marked lent n || zeroed chart (agesAt chart lent n)) (λ n h. true-or (marked lent n) _ (λ e. ap (zeroed chart) (unmarked-zeros n h e) ∙ zeros-zeroed chart)))
-      (true-and (entryAllows chart lent) (arrowsAllow chart lent) (below-allows chart lent (agesFlow chart .start) (chart .header .entry) (p .equations .begun))
-      (all-every (chart .header .nodes) _ (λ n h. true-or (not (marked lent n)) _ (λ e. all-everyOf _ (arrows chart n) (row-lets n h (not-false (marked lent n) e))))))))
+      true-and (entryAllows plan lent) _ (below-allows plan lent (planFlow plan .start) (plan .entry) (p .equations .begun))
+      (all-every (plan .nodes) (nodePasses plan lent) node-passes)

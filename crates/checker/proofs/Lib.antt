@@ -1,5 +1,5 @@
 pub mod Deciding
 pub mod Testing
-pub mod Answering
 pub mod Used
 pub mod Answers
+pub mod Answering

@@ -1,65 +1,112 @@
--- Turns of the checker's loops, and what its tests on rows say of a chart's table.
-use Prim.Native.Nat.{ℕ, zero, suc, _+_, _*_, _≤_, _<_}
+-- Turns of the checker's loops, and what its tests on rows by value say of a plan's table.
+use Prim.Native.Nat.{ℕ, _+_, _*_, _≤_, _<_}
 use mathlib.Core.Bool.{Bool, cond, _&&_}
 use mathlib.Core.List.{List}
-use mathlib.Core.Path.{_≡_, refl, sym, ap, _∙_}
+use mathlib.Core.Path.{_≡_, sym, ap, _∙_}
 use native.Mathlib.Omega.{arith}
-use borrow.Author.Tests.{lt-leb, ne-eqb}
-use lib.Dec.{leb, eqb}
-use lib.ListN.{getD, getD-replicate}
+use borrow.Author.Tests.{ne-eqb}
+use lib.Dec.{leb}
+use lib.ListN.{getD}
 use Rattle.lists.specs.Choice.{every}
-use Rattle.lists.proofs.Choice.{every-same}
+use Rattle.lists.proofs.Choice.{and-last, every-same}
+use Rattle.lists.proofs.Joined.{row-in}
 use Rattle.lists.proofs.Listed.{getD-listOf}
 use Rattle.lists.proofs.Loops.{every-turn}
 use Rattle.chart.specs.Geometry.{mostBlocks}
-use Rattle.chart.specs.Chart.{Chart, blockCount}
+use Rattle.chart.specs.Record.{arrowsOf}
 use Rattle.cache.specs.Ages.{Ages, ageOf, startAges}
-use Rattle.tables.specs.AgesFlow.{agesFlow, columns, isEmpty}
-use Rattle.tables.specs.Lent.{Lent, rowAt}
-use Rattle.rows.specs.Rows.{agesIn}
+use Rattle.layout.specs.Rows.{rowAt}
+use Rattle.ages.specs.Plan.{Plan, columnsOf, arrowsIn, planFlow}
+use Rattle.plan.specs.declared.PlannedNode.{PlannedNode}
+use Rattle.plan.specs.Listed.{nodesIn, blocksIn, entryIn, emptyIn, nodeIn, planIn, Drawn}
+use Rattle.plan.proofs.Holding.{arrows-held, must-limit-held, may-limit-held}
+use Rattle.rows.specs.declared.Row.{Row}
+use Rattle.rows.specs.Rows.{columnsBy, agesIn, asRow}
+use Rattle.tables.specs.Lent.{Lent, agesAt}
+use Rattle.tables.specs.Inner.{Roomy, rowAfter}
 use Rattle.tables.proofs.Meeting.{Agree}
-use Rattle.checker.specs.Checker.{marked}
-use Rattle.checker.specs.Inner.{rowWithin, rowZero, rowAllows, startRow}
+use Rattle.tables.proofs.After.{after-agrees, start-agrees}
+use Rattle.checker.specs.Checker.{fits, zeroed, marked, everyOf, rowAges, allows, agesFit, entryAllows, nodePasses}
+use Rattle.checker.specs.Inner.{RowIn}
 
 -- ---- turns
 
 module _ (blocks : ℕ) (must may : List ℕ) (n k : ℕ) (h : k < blocks) where
   age-at : (buffer : List ℕ) → ageOf (rowAt blocks buffer n) k ≡ getD buffer (n * blocks + k) 0
-  age-at buffer = getD-listOf blocks (λ block. getD buffer (n * blocks + block) 0) 0 k h
+  age-at buffer = getD-listOf blocks (λ column. getD buffer (n * blocks + column) 0) 0 k h
 
   -- A turn that tests the ages in column k of row n.
-  pub ages-turn : (test : ℕ → ℕ → ℕ → Bool) (c d : Bool) → c ≡ every k (λ block. test block (ageOf (rowAt blocks must n) block) (ageOf (rowAt blocks may n) block))
+  pub ages-turn : (test : ℕ → ℕ → ℕ → Bool) (c d : Bool) → c ≡ every k (λ column. test column (ageOf (rowAt blocks must n) column) (ageOf (rowAt blocks may n) column))
       → d ≡ (c && test k (getD must (n * blocks + k) 0) (getD may (n * blocks + k) 0))
-      → d ≡ every (k + 1) (λ block. test block (ageOf (rowAt blocks must n) block) (ageOf (rowAt blocks may n) block))
+      → d ≡ every (k + 1) (λ column. test column (ageOf (rowAt blocks must n) column) (ageOf (rowAt blocks may n) column))
   ages-turn test c d e q =
-      every-turn k (λ block. test block (ageOf (rowAt blocks must n) block) (ageOf (rowAt blocks may n) block)) c d e
+      every-turn k (λ column. test column (ageOf (rowAt blocks must n) column) (ageOf (rowAt blocks may n) column)) c d e
       (q ∙ (λ i. c && test k (sym (age-at must) i) (sym (age-at may) i)))
+
+-- ---- room
+
+-- Where there is room for so many rows, each of them is there.
+pub row-there : (nodes count : ℕ) (lent : Lent) → count ≤ mostBlocks → Roomy nodes count (lent .must) (lent .may) (lent .marks) → (t : ℕ) → t < nodes → RowIn count lent t
+row-there nodes count lent few roomy t inside =
+    let room = row-in t nodes count inside in
+    record {
+      few = few;
+      must-in = omega (arith, roomy .must-room);
+      may-in = omega (arith, roomy .may-room);
+      mark-in = omega (arith, roomy .marks-room);
+    }
 
 -- ---- ages that agree
 
-pub allows-agree : (blocks : ℕ) (a b : Ages) → Agree blocks a b → (lent : Lent) (t : ℕ) → rowAllows blocks a lent t ≡ rowAllows blocks b lent t
-allows-agree blocks a b agree lent t =
+pub allows-agree : (count : ℕ) (a b : Ages) → Agree count a b → (lent : Lent) (t : ℕ) → allows count lent a t ≡ allows count lent b t
+allows-agree count a b agree lent t =
     ap (λ (near : Bool). marked lent t && near)
-    (every-same blocks _ _ (λ j h. λ i. leb (agree .must j h i) (ageOf (rowAt blocks (lent .must) t) j) && leb (ageOf (rowAt blocks (lent .may) t) j) (agree .may j h i)))
+    (every-same count _ _ (λ j h. λ i. leb (agree .must j h i) (ageOf (rowAt count (lent .must) t) j) && leb (ageOf (rowAt count (lent .may) t) j) (agree .may j h i)))
 
--- The start's row has the start's ages in the chart's columns.
-pub start-agrees : (chart : Chart) → blockCount chart ≤ mostBlocks
-    → Agree (blockCount chart) (agesIn (startRow (chart .header .start) (chart .header .geometry .ways))) (agesFlow chart .start)
-unfolding startAges
-start-agrees chart few =
-    record {
-      must = λ j h. getD-replicate mostBlocks j _ 0 (omega arith) ∙ sym (getD-listOf (blockCount chart) (columns chart .limit) 0 j h);
-      may = λ j h.
-          getD-replicate mostBlocks j _ 0 (omega arith)
-          ∙ sym (getD-listOf (blockCount chart) (λ block. cond (isEmpty (chart .header .start)) (columns chart .limit block) 0) 0 j h);
-    }
+module _ (columns plan : List ℕ) where
+  -- The limits in the lists are the plan's.
+  pub fits-held : (a : Ages) → fits (columnsBy columns (blocksIn plan)) a ≡ fits (columnsOf (planIn columns plan)) a
+  fits-held a =
+      every-same (blocksIn plan) _ _
+      (λ j h. λ i. leb (ageOf (a .must) j) (sym (must-limit-held columns plan j h) i) && leb (ageOf (a .may) j) (sym (may-limit-held columns plan j h) i))
 
--- ---- ages at most 0
+-- The start's row tells whether the entry allows the start.
+pub entry-begins : {columns plan : List ℕ} → Drawn columns plan → (lent : Lent) {blocks entry : ℕ} {empty : Bool} {row : Row}
+    → blocks ≡ blocksIn plan → entry ≡ entryIn plan → empty ≡ emptyIn plan → row ≡ asRow (startAges (columnsBy columns mostBlocks) empty)
+    → allows blocks lent (agesIn row) entry ≡ entryAllows (planIn columns plan) lent
+entry-begins {columns} {plan} drawn lent blocks-are entry-is empty-is start =
+    (λ i. allows (blocks-are i) lent (agesIn (start i)) (entry-is i))
+    ∙ (λ i. allows (blocksIn plan) lent (agesIn (asRow (startAges (columnsBy columns mostBlocks) (empty-is i)))) (entryIn plan))
+    ∙ allows-agree (blocksIn plan) _ _ (start-agrees columns plan drawn) lent (entryIn plan)
 
-most-zero : (age : ℕ) → leb age 0 ≡ eqb age 0
-most-zero zero = refl
-most-zero (suc age) = lt-leb (suc age) 0 (omega arith) ∙ sym (ne-eqb (suc age) 0 (λ e. omega arith))
+-- ---- a node, from what is told of its row and of its targets
 
-pub within-zero : (blocks : ℕ) (must may : List ℕ) (n : ℕ) → rowWithin blocks must may 0 n ≡ rowZero blocks must may n
-within-zero blocks must may n =
-    λ i. every blocks (λ block. most-zero (ageOf (rowAt blocks must n) block) i && most-zero (ageOf (rowAt blocks may n) block) i)
+module _ {columns plan : List ℕ} (drawn : Drawn columns plan) (lent : Lent) (n : ℕ) {blocks : ℕ} (is : blocks ≡ blocksIn plan) {fit : Bool}
+    (fitting : fit ≡ fits (columnsBy columns blocks) (rowAges blocks (lent .must) (lent .may) n)) where
+  abbrev held : Plan
+  held = planIn columns plan
+
+  fit-held : fit ≡ agesFit held lent n
+  fit-held =
+      fitting
+      ∙ (λ i. fits (columnsBy columns (is i)) (rowAges (is i) (lent .must) (lent .may) n))
+      ∙ fits-held columns plan (agesAt held lent n)
+
+  pub unmarked-passes : getD (lent .marks) n 0 ≡ 0 → {zero : Bool} → zero ≡ zeroed blocks (rowAges blocks (lent .must) (lent .may) n) → (fit && zero) ≡ nodePasses held lent n
+  unmarked-passes mark e =
+      rw (mark, and-last) (λ i. fit-held i && (e ∙ (λ j. zeroed (is j) (rowAges (is j) (lent .must) (lent .may) n))) i)
+
+  module _ (inside : n < nodesIn plan) (roomy : Roomy (nodesIn plan) (blocksIn plan) (lent .must) (lent .may) (lent .marks))
+      {node : PlannedNode} (found : node ≡ nodeIn plan n) {row : Row} (after : row ≡ rowAfter columns (lent .must) (lent .may) blocks n (node .work)) where
+    after-held : row ≡ rowAfter columns (lent .must) (lent .may) (blocksIn plan) n (nodeIn plan n .work)
+    after-held = after ∙ (λ i. rowAfter columns (lent .must) (lent .may) (is i) n (found i .work))
+
+    pub marked-passes : (getD (lent .marks) n 0 ≡ 0 → ⊥) → {out : Bool} → out ≡ everyOf (allows blocks lent (agesIn row)) (arrowsOf (node .targets))
+        → (leb (getD (lent .marks) n 0) 1 && (fit && out)) ≡ nodePasses held lent n
+    marked-passes mark {out} e =
+        let agrees = after-agrees columns plan drawn n inside lent (roomy .must-room) (roomy .may-room) in
+        let out-held : out ≡ everyOf (allows (blocksIn plan) lent (planFlow held .step n (agesAt held lent n))) (arrowsIn held n) =
+        e
+        ∙ (λ i. everyOf (allows (is i) lent (agesIn (after-held i))) (arrowsOf (found i .targets)))
+        ∙ (λ i. everyOf (λ t. allows-agree (blocksIn plan) _ _ agrees lent t i) (sym (arrows-held columns plan n inside) i)) in
+        rw (ne-eqb _ _ mark) (λ i. leb (getD (lent .marks) n 0) 1 && (fit-held i && out-held i))

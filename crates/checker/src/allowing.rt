@@ -1,19 +1,24 @@
-// Whether a row of a lent table allows the ages that come to it.
+// Whether rows of a lent table allow the ages that come to them.
 ghost use mathlib.Core.Path.{_≡_};
-ghost use Prim.Native.Nat.{_+_, _*_, _≤_, _<_};
-ghost use lib.ListN.{length};
-ghost use Rattle.chart.specs.Geometry.{mostBlocks};
-ghost use Rattle.tables.specs.Lent.{Lent};
+ghost use Rattle.chart.specs.Record.{arrowsOf};
 ghost use Rattle.rows.specs.Rows.{agesIn};
-ghost use Rattle.tables.specs.Inner.{Roomy};
-ghost use Rattle.checker.specs.Inner.{rowCovers, rowAllows};
+ghost use Rattle.tables.specs.Contract.{lentTable, entryTable};
+ghost use Rattle.checker.specs.Checker.{everyOf, allows};
+ghost use Rattle.checker.specs.Inner.{RowIn, TargetsIn};
+use chart::Targets;
 use rows::Row;
 
-// Whether row t's must ages are no less and its may ages no more than a row's.
-fn row_covers(must: &[u8], may: &[u8], blocks: usize, row: Row, t: usize) -> bool
-    requires { ⌜ blocks ≤ mostBlocks ⌝ }
-    requires { ⌜ (t * blocks + blocks ≤ length (now must)) × (t * blocks + blocks ≤ length (now may)) ⌝ }
-    ensures { λ r. ⌜ r ≡ rowCovers blocks (agesIn row) (now (must .entry)) (now (may .entry)) t ⌝ }
+// Whether node t is marked, its must ages are no less and its may ages no more than a row's.
+pub(crate) fn row_allows(
+    must: &[u8],
+    may: &[u8],
+    marks: &[u8],
+    blocks: usize,
+    row: Row,
+    t: usize,
+) -> bool
+    requires { ⌜ RowIn blocks (lentTable must may marks) t ⌝ }
+    ensures { λ r. ⌜ r ≡ allows blocks (entryTable must may marks) (agesIn row) t ⌝ }
 {
     let base = t * blocks;
     let row_must = row.must;
@@ -22,23 +27,31 @@ fn row_covers(must: &[u8], may: &[u8], blocks: usize, row: Row, t: usize) -> boo
     for k in 0..blocks {
         covers = covers & ((row_must[k] <= must[base + k]) & (may[base + k] <= row_may[k]));
     }
-    covers
+    (marks[t] != 0) & covers
 }
 
-// Whether node t is marked and its row covers a row.
-pub(crate) fn row_allows(
+// Whether a node's targets allow a row.
+pub(crate) fn targets_allow(
     must: &[u8],
     may: &[u8],
     marks: &[u8],
-    nodes: usize,
     blocks: usize,
     row: Row,
-    t: usize,
+    targets: Targets,
 ) -> bool
-    requires { ⌜ (blocks ≤ mostBlocks) × (t < nodes) ⌝ }
-    requires { ⌜ Roomy nodes blocks (now must) (now may) (now marks) ⌝ }
-    ensures { λ r. ⌜ r ≡ rowAllows blocks (agesIn row) (record { must = now (must .entry); may = now (may .entry); marks = now (marks .entry) }) t ⌝ }
+    requires { ⌜ TargetsIn blocks (lentTable must may marks) targets ⌝ }
+    ensures { λ r. ⌜ r ≡ everyOf (allows blocks (entryTable must may marks) (agesIn row)) (arrowsOf targets) ⌝ }
 {
-    let covers = row_covers(must, may, blocks, row, t);
-    (marks[t] != 0) & covers
+    let outs = targets.outs;
+    let first = targets.first;
+    let second = targets.second;
+    if outs == 0 {
+        return true;
+    }
+    let one = row_allows(must, may, marks, blocks, row, first);
+    if outs == 1 {
+        return one;
+    }
+    let other = row_allows(must, may, marks, blocks, row, second);
+    one & other
 }

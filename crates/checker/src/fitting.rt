@@ -1,67 +1,35 @@
-// Tests of the numbers in a lent table: its marks, its ages, and the rows of unmarked nodes.
+// Tests of the ages in a row of a lent table: that they fit, and that they are 0.
 ghost use mathlib.Core.Path.{_≡_};
 ghost use Prim.Native.Nat.{_+_, _*_, _≤_};
-ghost use mathlib.Core.Bool.{_||_};
-ghost use lib.ListN.{length, getD};
-ghost use lib.Dec.{leb};
-ghost use Rattle.lists.specs.Choice.{every};
-ghost use Rattle.tables.specs.Lent.{Lent};
-ghost use Rattle.tables.specs.Inner.{Roomy};
-ghost use Rattle.checker.specs.Checker.{marked};
-ghost use Rattle.checker.specs.Inner.{rowWithin, rowZero};
+ghost use lib.ListN.{length};
+ghost use Rattle.rows.specs.Rows.{columnsBy};
+ghost use Rattle.tables.specs.Inner.{Loads};
+ghost use Rattle.checker.specs.Checker.{fits, zeroed, rowAges};
 
-// Whether each mark is 0 or 1.
-pub(crate) fn marks_plain(marks: &[u8], nodes: usize) -> bool
-    requires { ⌜ nodes ≤ length (now marks) ⌝ }
-    ensures { λ r. ⌜ r ≡ every nodes (λ n. leb (getD (now (marks .entry)) n 0) 1) ⌝ }
-{
-    let mut plain = true;
-    for n in 0..nodes {
-        plain = plain & (marks[n] <= 1);
-    }
-    plain
-}
-
-// Whether the ages of row n are at most `most`.
-fn row_within(must: &[u8], may: &[u8], blocks: usize, n: usize, most: u8) -> bool
-    requires { ⌜ (n * blocks + blocks ≤ length (now must)) × (n * blocks + blocks ≤ length (now may)) ⌝ }
-    ensures { λ r. ⌜ r ≡ rowWithin blocks (now (must .entry)) (now (may .entry)) most n ⌝ }
+// Whether the ages of row n are at most the limits of their columns.
+pub(crate) fn row_fits(columns: &[u8], must: &[u8], may: &[u8], blocks: usize, n: usize) -> bool
+    requires { ⌜ Loads (now columns) (now must) (now may) blocks n ⌝ }
+    ensures { λ r. ⌜ r ≡ fits (columnsBy (now (columns .entry)) blocks) (rowAges blocks (now (must .entry)) (now (may .entry)) n) ⌝ }
 {
     let base = n * blocks;
-    let mut within = true;
-    for k in 0..blocks {
-        within = within & ((must[base + k] <= most) & (may[base + k] <= most));
-    }
-    within
-}
-
-// Whether all ages are at most the number of ways.
-pub(crate) fn ages_fit(must: &[u8], may: &[u8], nodes: usize, blocks: usize, ways: u8) -> bool
-    requires { ⌜ (nodes * blocks ≤ length (now must)) × (nodes * blocks ≤ length (now may)) ⌝ }
-    ensures { λ r. ⌜ r ≡ every nodes (rowWithin blocks (now (must .entry)) (now (may .entry)) ways) ⌝ }
-{
     let mut fit = true;
-    for n in 0..nodes {
-        fit = fit & row_within(must, may, blocks, n, ways);
+    for k in 0..blocks {
+        let must_fits = must[base + k] <= columns[plan::MUST_LIMITS + k];
+        let may_fits = may[base + k] <= columns[plan::MAY_LIMITS + k];
+        fit = fit & (must_fits & may_fits);
     }
     fit
 }
 
-// Whether the rows of all unmarked nodes are 0.
-pub(crate) fn unmarked_zero(
-    must: &[u8],
-    may: &[u8],
-    marks: &[u8],
-    nodes: usize,
-    blocks: usize,
-) -> bool
-    requires { ⌜ Roomy nodes blocks (now must) (now may) (now marks) ⌝ }
-    ensures { λ r. ⌜ r ≡ every nodes (λ n. marked (record { must = now (must .entry); may = now (may .entry); marks = now (marks .entry) }) n || rowZero blocks (now (must .entry)) (now (may .entry)) n) ⌝ }
+// Whether the ages of row n are all 0.
+pub(crate) fn row_zero(must: &[u8], may: &[u8], blocks: usize, n: usize) -> bool
+    requires { ⌜ (n * blocks + blocks ≤ length (now must)) × (n * blocks + blocks ≤ length (now may)) ⌝ }
+    ensures { λ r. ⌜ r ≡ zeroed blocks (rowAges blocks (now (must .entry)) (now (may .entry)) n) ⌝ }
 {
+    let base = n * blocks;
     let mut zero = true;
-    for n in 0..nodes {
-        let none = row_within(must, may, blocks, n, 0);
-        zero = zero & ((marks[n] != 0) | none);
+    for k in 0..blocks {
+        zero = zero & ((must[base + k] == 0) & (may[base + k] == 0));
     }
     zero
 }

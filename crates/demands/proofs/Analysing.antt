@@ -7,19 +7,19 @@ use native.Mathlib.Omega.{arith}
 use lib.ListN.{length, replicate, length-replicate}
 use Rattle.lists.proofs.Listed.{length-listOf}
 use Rattle.lists.proofs.Joined.{length-written}
-use Rattle.refusals.specs.declared.Refusal.the-variants.{ShortBuffer, Unsettled}
+use Rattle.refusals.specs.declared.Refusal.the-variants.{ShortBuffer}
 use Rattle.chart.specs.Chart.{Chart, Read, accepted, refused, readChart, blockCount}
 use Rattle.cache.specs.Ages.{Ages}
 use Rattle.flow.specs.Flow.{Cell}
 use Rattle.flow.specs.Pass.{Outcome, settled, spent, settle}
 use Rattle.flow.proofs.Ending.{settle-says, settle-spends}
 use Rattle.flow.proofs.Outcomes.{settle-spent}
-use Rattle.tables.specs.AgesFlow.{agesFlow}
+use Rattle.ages.specs.Charted.{planOf, agesFlow}
 use Rattle.tables.specs.Lent.{Lent, agesUsed, marksUsed, lentOf}
 use Rattle.tables.proofs.Laid.{Shaped, must-laid, may-laid, marks-laid, long-enough}
 use Rattle.tables.proofs.Shaping.{afterPasses-shaped}
-use Rattle.analysis.specs.declared.Analysed.the-variants.{Settled, Refused}
-use Rattle.analysis.specs.Class.{tableClasses}
+use Rattle.analysis.specs.declared.Analysed.the-variants.{Settled, Unsettled, Refused}
+use Rattle.classes.specs.Class.{tableClasses}
 use Rattle.analysis.proofs.Room.{room-parts}
 use Rattle.analysis.specs.Analysis.{Buffers, Left, tableIn, classesUsed, buffersShort, fill, zeroLent, filledBy, refuse, finish, analyseRead, analysed}
 use Rattle.demands.specs.Demand1.{AllChange, AnalysisRefusals, SameLengths}
@@ -27,35 +27,35 @@ use Rattle.demands.specs.Demand1.{AllChange, AnalysisRefusals, SameLengt
 -- ---- what it answers
 
 module _ (bytes : List ℕ) (chart : Chart) (allowance : ℕ) (lent : Buffers) (read : readChart bytes ≡ accepted chart) where
-  answered : analysed bytes allowance lent ≡ cond (buffersShort chart lent) (refuse lent ShortBuffer) (finish chart allowance lent (settle (agesFlow chart) allowance))
+  answered : analysed bytes allowance lent ≡ cond (buffersShort (planOf chart) lent) (refuse lent ShortBuffer) (finish (planOf chart) (chart .blocks) allowance lent (settle (agesFlow chart) allowance))
   unfolding analysed
   answered = rw read
 
-  answered-short : buffersShort chart lent ≡ true → analysed bytes allowance lent ≡ refuse lent ShortBuffer
+  answered-short : buffersShort (planOf chart) lent ≡ true → analysed bytes allowance lent ≡ refuse lent ShortBuffer
   answered-short e = answered ∙ (rw e)
 
-  answered-outcome : buffersShort chart lent ≡ false → (o : Outcome Ages) → settle (agesFlow chart) allowance ≡ o → analysed bytes allowance lent ≡ finish chart allowance lent o
+  answered-outcome : buffersShort (planOf chart) lent ≡ false → (o : Outcome Ages) → settle (agesFlow chart) allowance ≡ o → analysed bytes allowance lent ≡ finish (planOf chart) (chart .blocks) allowance lent o
   answered-outcome e o q = answered ∙ (rw (e, q))
 
   -- An analysis that settled: with room, at this table, which it leaves.
   pub record Done (passes blocks : ℕ) : Type 0 where
-    pub room : buffersShort chart lent ≡ false
+    pub room : buffersShort (planOf chart) lent ≡ false
     pub table : List (Cell Ages)
     pub outcome : settle (agesFlow chart) allowance ≡ settled passes table
     pub counted : blocks ≡ blockCount chart
-    pub left : analysed bytes allowance lent ≡ record { answer = Settled passes (blockCount chart); buffers = filledBy chart table lent }
+    pub left : analysed bytes allowance lent ≡ record { answer = Settled passes (blockCount chart); buffers = filledBy (planOf chart) (chart .blocks) table lent }
 
   pub settled-done : (passes blocks : ℕ) → analysed bytes allowance lent .answer ≡ Settled passes blocks → Done passes blocks
   unfolding finish
-  settled-done passes blocks e = go (buffersShort chart lent) refl (settle (agesFlow chart) allowance) refl
+  settled-done passes blocks e = go (buffersShort (planOf chart) lent) refl (settle (agesFlow chart) allowance) refl
     where
-      go : (short : Bool) → buffersShort chart lent ≡ short → (o : Outcome Ages) → settle (agesFlow chart) allowance ≡ o → Done passes blocks
+      go : (short : Bool) → buffersShort (planOf chart) lent ≡ short → (o : Outcome Ages) → settle (agesFlow chart) allowance ≡ o → Done passes blocks
       go true s o q =
           let says : analysed bytes allowance lent .answer ≡ Refused ShortBuffer = ap (λ (l : Left). l .answer) (answered-short s) in
           let z : _≡_ {A = ℕ} 0 1 = cc in
           absurd (omega arith)
       go false s spent q =
-          let says : analysed bytes allowance lent .answer ≡ Refused (Unsettled allowance (blockCount chart)) = ap (λ (l : Left). l .answer) (answered-outcome s spent q) in
+          let says : analysed bytes allowance lent .answer ≡ Unsettled allowance (blockCount chart) = ap (λ (l : Left). l .answer) (answered-outcome s spent q) in
           let z : _≡_ {A = ℕ} 0 1 = cc in
           absurd (omega arith)
       go false s (settled k U) q =
@@ -67,10 +67,10 @@ module _ (bytes : List ℕ) (chart : Chart) (allowance : ℕ) (lent : Buffers) (
             table = U;
             outcome = q ∙ ap (λ (n : ℕ). settled n U) made;
             counted = of;
-            left = answered-outcome s (settled k U) q ∙ ap (λ (n : ℕ). record { answer = Settled n (blockCount chart); buffers = filledBy chart U lent }) made;
+            left = answered-outcome s (settled k U) q ∙ ap (λ (n : ℕ). record { answer = Settled n (blockCount chart); buffers = filledBy (planOf chart) (chart .blocks) U lent }) made;
           }
 
-  pub done-settled : buffersShort chart lent ≡ false → (k : ℕ) (U : List (Cell Ages)) → settle (agesFlow chart) allowance ≡ settled k U
+  pub done-settled : buffersShort (planOf chart) lent ≡ false → (k : ℕ) (U : List (Cell Ages)) → settle (agesFlow chart) allowance ≡ settled k U
       → analysed bytes allowance lent .answer ≡ Settled k (blockCount chart)
   unfolding finish
   done-settled room k U q = ap (λ (l : Left). l .answer) (answered-outcome room (settled k U) q)
@@ -84,7 +84,7 @@ module _ (bytes : List ℕ) (chart : Chart) (allowance : ℕ) (lent : Buffers) (
         settled = λ room some. go room some (settle (agesFlow chart) allowance) refl;
       }
     where
-      go : buffersShort chart lent ≡ false → (AllChange chart allowance → ⊥)
+      go : buffersShort (planOf chart) lent ≡ false → (AllChange chart allowance → ⊥)
           → (o : Outcome Ages) → settle (agesFlow chart) allowance ≡ o → (passes : ℕ) × (analysed bytes allowance lent .answer ≡ Settled passes (blockCount chart))
       go room some (settled k U) q = (k, done-settled room k U q)
       go room some spent q = absurd (some (settle-spends (agesFlow chart) allowance q))
@@ -94,12 +94,12 @@ module _ (bytes : List ℕ) (chart : Chart) (allowance : ℕ) (lent : Buffers) (
 unchanged : (lent : Buffers) → SameLengths lent lent
 unchanged lent = record { blocks = refl; must = refl; may = refl; marks = refl; classes = refl }
 
-module _ (chart : Chart) (lent : Buffers) (room : buffersShort chart lent ≡ false) where
-  filled-lengths : (table : Lent) (classes : List ℕ) → length (table .must) ≡ agesUsed chart → length (table .may) ≡ agesUsed chart → length (table .marks) ≡ marksUsed chart → length classes ≡ classesUsed chart
-      → SameLengths lent (fill chart table classes lent)
+module _ (chart : Chart) (lent : Buffers) (room : buffersShort (planOf chart) lent ≡ false) where
+  filled-lengths : (table : Lent) (classes : List ℕ) → length (table .must) ≡ agesUsed (planOf chart) → length (table .may) ≡ agesUsed (planOf chart) → length (table .marks) ≡ marksUsed (planOf chart) → length classes ≡ classesUsed (planOf chart)
+      → SameLengths lent (fill (chart .blocks) table classes lent)
   filled-lengths table classes must may marks of =
-      let parts = room-parts chart lent room in
-      let long = long-enough chart (tableIn lent) (parts .1 .0) in
+      let parts = room-parts (planOf chart) lent room in
+      let long = long-enough (planOf chart) (tableIn lent) (parts .1 .0) in
       record {
         blocks = length-written (chart .blocks) (lent .blocks) (parts .0);
         must = length-written (table .must) (lent .must) (omega (arith, long .0));
@@ -108,23 +108,23 @@ module _ (chart : Chart) (lent : Buffers) (room : buffersShort chart lent ≡ fa
         classes = length-written classes (lent .classes) (omega (arith, parts .1 .1));
       }
 
-  finished-lengths : (allowance : ℕ) (o : Outcome Ages) → settle (agesFlow chart) allowance ≡ o → SameLengths lent (finish chart allowance lent o .buffers)
+  finished-lengths : (allowance : ℕ) (o : Outcome Ages) → settle (agesFlow chart) allowance ≡ o → SameLengths lent (finish (planOf chart) (chart .blocks) allowance lent o .buffers)
   unfolding finish
   finished-lengths allowance (settled k U) q =
-      let shaped = subst (Shaped chart) (sym (settle-says (agesFlow chart) allowance k U q .table)) (afterPasses-shaped chart k) in
-      filled-lengths (lentOf chart U) (tableClasses chart U) (must-laid chart shaped) (may-laid chart shaped) (marks-laid chart shaped) (length-listOf (chart .header .nodes) _)
+      let shaped = subst (Shaped (planOf chart)) (sym (settle-says (agesFlow chart) allowance k U q .table)) (afterPasses-shaped (planOf chart) k) in
+      filled-lengths (lentOf (planOf chart) U) (tableClasses (planOf chart) U) (must-laid (planOf chart) shaped) (may-laid (planOf chart) shaped) (marks-laid (planOf chart) shaped) (length-listOf (chart .header .nodes) _)
   finished-lengths allowance spent q =
-      filled-lengths (zeroLent chart) (replicate (classesUsed chart) 0) (length-replicate _ _) (length-replicate _ _) (length-replicate _ _) (length-replicate _ _)
+      filled-lengths (zeroLent (planOf chart)) (replicate (classesUsed (planOf chart)) 0) (length-replicate _ _) (length-replicate _ _) (length-replicate _ _) (length-replicate _ _)
 
 pub same-lengths : (bytes : List ℕ) (allowance : ℕ) (lent : Buffers) → SameLengths lent (analysed bytes allowance lent .buffers)
 unfolding analysed
 same-lengths bytes allowance lent = go (readChart bytes)
   where
-    room : (chart : Chart) (short : Bool) → buffersShort chart lent ≡ short
-        → SameLengths lent (cond short (refuse lent ShortBuffer) (finish chart allowance lent (settle (agesFlow chart) allowance)) .buffers)
+    room : (chart : Chart) (short : Bool) → buffersShort (planOf chart) lent ≡ short
+        → SameLengths lent (cond short (refuse lent ShortBuffer) (finish (planOf chart) (chart .blocks) allowance lent (settle (agesFlow chart) allowance)) .buffers)
     room chart true e = unchanged lent
     room chart false e = finished-lengths chart lent e allowance (settle (agesFlow chart) allowance) refl
 
     go : (r : Read) → SameLengths lent (analyseRead allowance lent r .buffers)
-    go (accepted chart) = room chart (buffersShort chart lent) refl
+    go (accepted chart) = room chart (buffersShort (planOf chart) lent) refl
     go (refused refusal) = unchanged lent

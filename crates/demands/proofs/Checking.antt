@@ -6,9 +6,9 @@ use mathlib.Core.Logic.{_⊎_, inl, inr}
 use mathlib.Core.Path.{_≡_, refl, sym, ap, _∙_}
 use native.Mathlib.Omega.{arith}
 use Rattle.chart.specs.Chart.{Chart, accepted, readChart}
-use Rattle.chart.proofs.Accepted.{accepted-entry}
 use Rattle.tables.specs.Lent.{Lent, tableShort, TablePasses, SameUsed}
-use Rattle.tables.proofs.Stepping.{arrow-inside}
+use Rattle.ages.specs.Charted.{planOf}
+use Rattle.ages.proofs.Charting.{chart-sound}
 use Rattle.checker.specs.declared.Checked.{Checked}
 use Rattle.checker.specs.declared.Checked.the-variants.{Passes, Fails}
 use Rattle.checker.specs.Checker.{passes, checked, checkedSays}
@@ -29,28 +29,28 @@ module _ (bytes : List ℕ) (chart : Chart) (table : Lent) (read : readChart byt
   checker =
       record {
         short = λ e. checked-accepted bytes chart table read ∙ (rw e);
-        answers = λ e. answers (passes chart table) (checked-accepted bytes chart table read ∙ (rw e));
+        answers = λ e. answers (passes (planOf chart) table) (checked-accepted bytes chart table read ∙ (rw e));
       }
     where
       answers : (passing : Bool) → checked bytes table ≡ cond passing Passes Fails → (checked bytes table ≡ Passes) ⊎ (checked bytes table ≡ Fails)
       answers true e = inl e
       answers false e = inr e
 
-  pub checker-yes : checkedSays (checked bytes table) .yes ≡ 1 → TablePasses chart table
+  pub checker-yes : checkedSays (checked bytes table) .yes ≡ 1 → TablePasses (planOf chart) table
   checker-yes e =
-      let both = says-yes (tableShort chart table) (passes chart table) (ap (λ (c : Checked). checkedSays c .yes) (sym (checked-accepted bytes chart table read)) ∙ e) in
-      passes-yes chart table (accepted-entry bytes chart read) (arrow-inside bytes chart read) (both .0) (both .1)
+      let both = says-yes (tableShort (planOf chart) table) (passes (planOf chart) table) (ap (λ (c : Checked). checkedSays c .yes) (sym (checked-accepted bytes chart table read)) ∙ e) in
+      passes-yes (planOf chart) table (chart-sound bytes chart read) (both .0) (both .1)
 
-  passes-checked : TablePasses chart table → checked bytes table ≡ Passes
-  passes-checked p = checked-accepted bytes chart table read ∙ (rw (yes-long chart table p, yes-passes chart table p))
+  passes-checked : TablePasses (planOf chart) table → checked bytes table ≡ Passes
+  passes-checked p = checked-accepted bytes chart table read ∙ (rw (yes-long (planOf chart) table p, yes-passes (planOf chart) table p))
 
-  pub yes-checker : TablePasses chart table → checkedSays (checked bytes table) .yes ≡ 1
+  pub yes-checker : TablePasses (planOf chart) table → checkedSays (checked bytes table) .yes ≡ 1
   yes-checker p =
       ap (λ (c : Checked). checkedSays c .yes) (passes-checked p)
 
 -- "Both read only the used parts of a lent table"
-pub checker-used : (bytes : List ℕ) (chart : Chart) (one other : Lent) → readChart bytes ≡ accepted chart → SameUsed chart one other → checked bytes one ≡ checked bytes other
+pub checker-used : (bytes : List ℕ) (chart : Chart) (one other : Lent) → readChart bytes ≡ accepted chart → SameUsed (planOf chart) one other → checked bytes one ≡ checked bytes other
 checker-used bytes chart one other read same =
     checked-accepted bytes chart one read
-    ∙ (λ i. answerOf ((same .one-long ∙ sym (same .other-long)) i) (passes-used bytes chart one other read same i))
+    ∙ (λ i. answerOf ((same .one-long ∙ sym (same .other-long)) i) (passes-used (planOf chart) (chart-sound bytes chart read) one other same i))
     ∙ sym (checked-accepted bytes chart other read)

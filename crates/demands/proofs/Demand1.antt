@@ -4,7 +4,7 @@ use Rattle.demands.proofs.Refusals.{reading-refusals}
 use Rattle.demands.proofs.Analysing.{analysis, same-lengths}
 use Rattle.demands.proofs.Checking.{checker, checker-used}
 use Rattle.demands.proofs.Totalling.{totalling, totals-numbers, totals-refusal, totals-used}
-use Rattle.demands.proofs.Numbers.{header-numbers, reading-numbers, analysis-numbers, checker-numbers, header-refusal, reading-refusal, analysis-refusal, checker-refusal, refusal-values, unsettled-values}
+use Rattle.demands.proofs.Numbers.{header-numbers, reading-numbers, analysis-numbers, checker-numbers, header-refusal, reading-refusal, analysis-refusal, analysis-refused, analysis-unsettled, checker-refusal}
 
 pub demand1 : Demand1
 demand1 =
@@ -21,10 +21,10 @@ demand1 =
       header-refusal = header-refusal;
       reading-refusal = reading-refusal;
       analysis-refusal = analysis-refusal;
+      analysis-refused = analysis-refused;
+      analysis-unsettled = analysis-unsettled;
       checker-refusal = checker-refusal;
       totals-refusal = totals-refusal;
-      refusal-values = refusal-values;
-      unsettled-values = unsettled-values;
       same-lengths = same-lengths;
       checker-used = λ bytes chart one other read same. checker-used bytes chart one other read same;
       totals-used = λ bytes chart one other prices read same. totals-used bytes chart one other prices read same;

@@ -6,7 +6,7 @@ use mathlib.Core.Path.{_≡_, refl, sym, ap, _∙_, subst}
 use native.Mathlib.Nat.{mul-le-mul}
 use native.Mathlib.Omega.{arith}
 use lib.ListN.{length, replicate, length-replicate}
-use Rattle.chart.specs.Geometry.{mostNodes, mostBlocks, mostWays}
+use Rattle.chart.specs.Geometry.{mostNodes, mostBlocks, mostWays, passesFor, allPasses}
 use Rattle.chart.specs.Chart.{Chart, Read, accepted, refused, readChart, blockCount}
 use Rattle.chart.proofs.Accepted.{accepted-nodes, accepted-ways, accepted-few}
 use Rattle.cache.specs.Ages.{Ages}
@@ -14,11 +14,12 @@ use Rattle.flow.specs.Flow.{Cell, cellAt}
 use Rattle.flow.specs.Passing.{Marked, Tightest}
 use Rattle.flow.specs.Pass.{settled}
 use Rattle.flow.proofs.Outcomes.{settle-agree}
-use Rattle.tables.specs.AgesFlow.{agesFlow, passesFor, mostPasses, allPasses}
+use Rattle.ages.specs.Charted.{planOf, agesFlow, mostPasses}
+use Rattle.ages.proofs.Charting.{key-alike, set-alike, limits-planned, enough-planned, chart-sound, reached-planned, planned-reached}
 use Rattle.tables.specs.Lent.{agesUsed}
 use Rattle.tables.proofs.Laid.{Shaped, table-over, not-short, over-passes}
 use Rattle.tables.proofs.Shaping.{afterPasses-shaped}
-use Rattle.tables.proofs.Settled.{settles-within, settled-tightest, settled-passes, settled-made, settled-last, settled-earlier, settled-table, settled-marked}
+use Rattle.ages.proofs.Settled.{settles-within, settled-tightest, settled-passes, settled-made, settled-last, settled-earlier, settled-table, settled-marked}
 use Rattle.analysis.specs.declared.Analysed.the-variants.{Settled, Refused}
 use Rattle.analysis.specs.Analysis.{Buffers, Left, buffersShort, filledBy, tableIn, analysed}
 use Rattle.report.specs.Report.{taken, zeroBuffers}
@@ -31,30 +32,32 @@ use Rattle.demands.proofs.Analysing.{Done, settled-done, done-settled}
 -- ---- an analysis that settles
 
 module _ (bytes : List ℕ) (chart : Chart) (read : readChart bytes ≡ accepted chart) (allowance passes blocks : ℕ) (lent : Buffers) (done : Done bytes chart allowance lent read passes blocks) where
-  shaped : Shaped chart (done .table)
+  shaped : Shaped (planOf chart) (done .table)
   shaped =
-      subst (Shaped chart) (sym (settled-table bytes chart read allowance passes (done .table) (done .outcome))) (afterPasses-shaped chart passes)
+      subst (Shaped (planOf chart)) (sym (settled-table (planOf chart) (chart-sound bytes chart read) allowance passes (done .table) (done .outcome))) (afterPasses-shaped (planOf chart) passes)
 
   tightest : Tightest (agesFlow chart) (done .table)
-  tightest = settled-tightest bytes chart read allowance passes (done .table) (done .outcome)
+  tightest = settled-tightest (planOf chart) (chart-sound bytes chart read) allowance passes (done .table) (done .outcome)
 
-  done-settles : Settles chart passes blocks lent (filledBy chart (done .table) lent)
+  done-settles : Settles chart passes blocks lent (filledBy (planOf chart) (chart .blocks) (done .table) lent)
   done-settles =
-      let same = settled-table bytes chart read allowance passes (done .table) (done .outcome) in
-      let kept = table-over chart shaped (tableIn lent) in
-      let reach = settled-marked bytes chart read allowance passes (done .table) (done .outcome) in
+      let same = settled-table (planOf chart) (chart-sound bytes chart read) allowance passes (done .table) (done .outcome) in
+      let kept = table-over (planOf chart) shaped (tableIn lent) in
+      let reach = settled-marked (planOf chart) (chart-sound bytes chart read) allowance passes (done .table) (done .outcome) in
       record {
         counted = done .counted;
-        made = settled-made bytes chart read allowance passes (done .table) (done .outcome);
-        last = settled-last bytes chart read allowance passes (done .table) (done .outcome);
-        earlier = settled-earlier bytes chart read allowance passes (done .table) (done .outcome);
-        count = settled-passes bytes chart read allowance passes (done .table) (done .outcome);
-        filled = ap (λ (T : List (Cell Ages)). filledBy chart T lent) same;
+        made = settled-made (planOf chart) (chart-sound bytes chart read) allowance passes (done .table) (done .outcome);
+        last = settled-last (planOf chart) (chart-sound bytes chart read) allowance passes (done .table) (done .outcome);
+        earlier = settled-earlier (planOf chart) (chart-sound bytes chart read) allowance passes (done .table) (done .outcome);
+        count =
+            let most = settled-passes (planOf chart) (chart-sound bytes chart read) (chart .header .geometry .ways) (limits-planned chart) allowance passes (done .table) (done .outcome) in
+            omega (arith, enough-planned chart);
+        filled = ap (λ (T : List (Cell Ages)). filledBy (planOf chart) (chart .blocks) T lent) same;
         table = kept ∙ same;
-        table-passes = over-passes chart shaped (tightest .passes) (tableIn lent) (room-parts chart lent (done .room) .1 .0);
+        table-passes = over-passes (planOf chart) shaped (tightest .passes) (tableIn lent) (room-parts (planOf chart) lent (done .room) .1 .0);
         tightest = subst (Tightest (agesFlow chart)) (sym kept) tightest;
-        marked-reached = λ n m. reach n .0 (subst (λ (T : List (Cell Ages)). Marked (cellAt T n)) kept m);
-        reached-marked = λ n r. subst (λ (T : List (Cell Ages)). Marked (cellAt T n)) (sym kept) (reach n .1 r);
+        marked-reached = λ n m. planned-reached bytes chart read n (reach n .0 (subst (λ (T : List (Cell Ages)). Marked (cellAt T n)) kept m));
+        reached-marked = λ n r. subst (λ (T : List (Cell Ages)). Marked (cellAt T n)) (sym kept) (reach n .1 (reached-planned bytes chart read n r));
       }
 
 settled-settles : (bytes : List ℕ) (chart : Chart) (allowance passes blocks : ℕ) (lent : Buffers) → readChart bytes ≡ accepted chart → analysed bytes allowance lent .answer ≡ Settled passes blocks
@@ -84,15 +87,15 @@ settled-agree bytes one other passes passes′ blocks blocks′ lent d e =
     let second = settled-done bytes chart other lent (found .1) passes′ blocks′ e in
     let same = settle-agree (agesFlow chart) one other passes passes′ (first .table) (second .table) (first .outcome) (second .outcome) in
     first .left
-    ∙ (λ i. record { answer = Settled (same .0 i) (blockCount chart); buffers = filledBy chart (same .1 i) lent })
+    ∙ (λ i. record { answer = Settled (same .0 i) (blockCount chart); buffers = filledBy (planOf chart) (chart .blocks) (same .1 i) lent })
     ∙ sym (second .left)
 
 -- ---- an allowance that is enough
 
-settles-enough : (bytes : List ℕ) (chart : Chart) (allowance : ℕ) (lent : Buffers) → readChart bytes ≡ accepted chart → buffersShort chart lent ≡ false → mostPasses chart ≤ allowance
+settles-enough : (bytes : List ℕ) (chart : Chart) (allowance : ℕ) (lent : Buffers) → readChart bytes ≡ accepted chart → buffersShort (planOf chart) lent ≡ false → mostPasses chart ≤ allowance
     → (passes : ℕ) × (analysed bytes allowance lent .answer ≡ Settled passes (blockCount chart))
 settles-enough bytes chart allowance lent read room h =
-    let done = settles-within bytes chart read allowance h in
+    let done = settles-within (planOf chart) (chart-sound bytes chart read) (chart .header .geometry .ways) (limits-planned chart) allowance (omega (arith, enough-planned chart)) in
     (done .0, done-settled bytes chart allowance lent read room (done .0) (done .1) (done .2))
 
 passes-grow : (nodes nodes′ blocks blocks′ ways ways′ : ℕ) → nodes ≤ nodes′ → blocks ≤ blocks′ → ways ≤ ways′ → passesFor nodes blocks ways ≤ passesFor nodes′ blocks′ ways′
@@ -102,11 +105,11 @@ passes-grow nodes nodes′ blocks blocks′ ways ways′ n b w =
     omega (arith, mul-le-mul n each)
 
 -- Buffers of zeros for as many nodes and blocks as the chart has, or more, have room.
-zeros-room : (chart : Chart) (nodes blocks : ℕ) → chart .header .nodes ≤ nodes → blockCount chart ≤ blocks → buffersShort chart (zeroBuffers nodes blocks) ≡ false
+zeros-room : (chart : Chart) (nodes blocks : ℕ) → chart .header .nodes ≤ nodes → blockCount chart ≤ blocks → buffersShort (planOf chart) (zeroBuffers nodes blocks) ≡ false
 zeros-room chart nodes blocks n b =
-    let ages : agesUsed chart ≤ nodes * blocks = mul-le-mul n b in
-    parts-room chart (zeroBuffers nodes blocks) (room blocks (blockCount chart) b)
-    (not-short chart (tableIn (zeroBuffers nodes blocks)) (room (nodes * blocks) (agesUsed chart) ages) (room (nodes * blocks) (agesUsed chart) ages) (room nodes (chart .header .nodes) n))
+    let ages : agesUsed (planOf chart) ≤ nodes * blocks = mul-le-mul n b in
+    parts-room (planOf chart) (zeroBuffers nodes blocks) (room blocks (blockCount chart) b)
+    (not-short (planOf chart) (tableIn (zeroBuffers nodes blocks)) (room (nodes * blocks) (agesUsed (planOf chart)) ages) (room (nodes * blocks) (agesUsed (planOf chart)) ages) (room nodes (chart .header .nodes) n))
     (room nodes (chart .header .nodes) n)
   where
     room : (size used : ℕ) → used ≤ size → used ≤ length (replicate {A = ℕ} size 0)
@@ -125,6 +128,8 @@ program-enough bytes chart read =
 pub demand2 : Demand2
 demand2 =
     record {
+      keys-sets = key-alike;
+      sets-keys = set-alike;
       checker-yes = checker-yes;
       yes-checker = yes-checker;
       settled = settled-settles;

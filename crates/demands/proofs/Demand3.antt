@@ -10,30 +10,31 @@ use lib.ListN.{getD, length, drop}
 use Rattle.lists.proofs.Joined.{getD-written}
 use Rattle.lists.proofs.Listed.{length-listOf, getD-listOf}
 use Rattle.chart.specs.Chart.{Chart, accepted, readChart, touches}
-use Rattle.refusals.proofs.Values.{numbered}
+use Rattle.refusals.proofs.Numbers.{numbered}
 use Rattle.cache.specs.Ages.{Ages}
-use Rattle.cache.specs.Plain.{Cache}
+use Rattle.ages.specs.Charted.{planOf, touchedBy}
+use Rattle.machine.specs.Machine.{plainMachine, Contents}
+use Rattle.costs.specs.Costs.{Prices, classesAt}
 use Rattle.flow.specs.Flow.{Cell, cellAt}
 use Rattle.flow.proofs.Walking.{at-nodes, unvisited, at-nodes-both}
 use Rattle.tables.specs.Lent.{Lent, tableOf, TablePasses}
 use Rattle.tables.proofs.Laid.{tableOf-at}
 use Rattle.analysis.specs.declared.Analysed.the-variants.{Settled}
-use Rattle.analysis.specs.Class.{nodeClass, tableClasses}
+use Rattle.classes.specs.Class.{nodeClass, tableClasses}
 use Rattle.analysis.specs.Analysis.{Buffers, tableIn, analysed}
 use Rattle.checker.specs.Checker.{marked, passes}
 use Rattle.totals.specs.declared.Totals.the-variants.{Between, Refused}
 use Rattle.totals.specs.declared.Totals.{Totals}
-use Rattle.totals.specs.Totals.{Prices, totals, totalsSay}
-use Rattle.totals.proofs.Spending.{RightAt, low-below, high-above, SureAt, low-reached, high-reached}
+use Rattle.totals.specs.Totals.{totals, totalsSay}
+use Rattle.costs.proofs.Spending.{low-below, high-above, low-reached, high-reached}
 use Rattle.demands.specs.Demand1.{Priced, Summable}
-use Rattle.demands.specs.Machine.{plainMachine}
 use Rattle.demands.specs.Demand3.{OnWalk, VisitsWithin, SaysTrue, ClassTrue, AtEachNode, CostBetween, Demand3, VisitsKnown, Sure, CostExactly}
 use Rattle.demands.proofs.Checking.{checker-yes}
 use Rattle.demands.proofs.Demand2.{demand2}
 use Rattle.demands.proofs.Totalling.{totalling}
-use Rattle.demands.proofs.Truth.{Arrives, walk-arrives, arrived-true, arrived-reached, arrived-right}
+use Rattle.demands.proofs.Truth.{touchClass, RightHere, ToldHere, Arrives, walk-arrives, arrived-true, arrived-reached, arrived-right}
 
-module _ (bytes : List ℕ) (chart : Chart) (table : Lent) (cache : Cache) (ts : List ℕ) (on : OnWalk bytes chart cache ts) (passing : TablePasses chart table) where
+module _ (bytes : List ℕ) (chart : Chart) (table : Lent) (cache : Contents chart) (ts : List ℕ) (on : OnWalk bytes chart cache ts) (passing : TablePasses (planOf chart) table) where
   arriving : AtEachNode chart (Arrives bytes chart (on .read) table (passing .equations)) ts cache
   arriving = walk-arrives bytes chart (on .read) table (passing .equations) ts cache (on .begins) (on .walk)
 
@@ -51,9 +52,9 @@ module _ (bytes : List ℕ) (chart : Chart) (table : Lent) (cache : Cache) (ts :
     unmarked-floor n h e =
         omega (arith, within .no-less n h, unvisited (plainMachine chart) (touches chart) (Arrives bytes chart (on .read) table (passing .equations)) n never (chart .header .entry) ts cache arriving)
       where
-        never : (c : Cache) → Arrives bytes chart (on .read) table (passing .equations) n c → ⊥
+        never : (c : Contents chart) → Arrives bytes chart (on .read) table (passing .equations) n c → ⊥
         never c arrived =
-            let cell = sym (tableOf-at chart table n h) ∙ arrived .marked in
+            let cell = sym (tableOf-at (planOf chart) table n h) ∙ arrived .marked in
             let blank-is = (rw e at cell) in
             let z : _≡_ {A = ℕ} 0 1 = cc in
             omega arith
@@ -67,9 +68,9 @@ module _ (bytes : List ℕ) (chart : Chart) (table : Lent) (cache : Cache) (ts :
           none-unmarked = λ n h z. unmarked-floor n h (eq-eqb (getD (table .marks) n 0) 0 z);
         }
 
-    right : AtEachNode chart (RightAt chart table prices (priced .costs) (plainMachine chart)) ts cache
+    right : AtEachNode chart (RightHere chart table prices (priced .costs)) ts cache
     right =
-        at-nodes (plainMachine chart) (touches chart) (Arrives bytes chart (on .read) table (passing .equations)) (RightAt chart table prices (priced .costs) (plainMachine chart))
+        at-nodes (plainMachine chart) (touches chart) (Arrives bytes chart (on .read) table (passing .equations)) (RightHere chart table prices (priced .costs))
         (λ n c arrived. arrived-right bytes chart (on .read) table (passing .equations) n c arrived prices (priced .costs)) (chart .header .entry) ts cache arriving
 
     pub passing-between : CostBetween chart prices ts cache (totals bytes table prices)
@@ -77,24 +78,24 @@ module _ (bytes : List ℕ) (chart : Chart) (table : Lent) (cache : Cache) (ts :
         subst (CostBetween chart prices ts cache) (sym (totalling bytes chart table prices (on .read) .sums summable))
         record {
           given = refl;
-          no-less = low-below chart table prices (priced .costs) (plainMachine chart) (chart .header .entry) ts cache right (within .no-less);
-          no-more = high-above chart table prices (priced .costs) (plainMachine chart) (chart .header .entry) ts cache right (within .no-more);
+          no-less = low-below (plainMachine chart) (touchClass chart) (touchedBy chart) (touches chart) (chart .header .nodes) (classesAt (planOf chart)) (tableOf (planOf chart) table) prices (priced .costs) (chart .header .entry) ts cache right (within .no-less);
+          no-more = high-above (plainMachine chart) (touchClass chart) (touchedBy chart) (touches chart) (chart .header .nodes) (classesAt (planOf chart)) (tableOf (planOf chart) table) prices (priced .costs) (chart .header .entry) ts cache right (within .no-more);
         }
 
     -- Where nothing is unsure and the visits are known.
     module _ (known : VisitsKnown chart prices ts) (sure : AtEachNode chart (Sure chart table) ts cache) where
-      sure-right : AtEachNode chart (SureAt chart table prices (priced .costs) (plainMachine chart)) ts cache
-      sure-right =
-          at-nodes-both (plainMachine chart) (touches chart) (Arrives bytes chart (on .read) table (passing .equations)) (Sure chart table) (SureAt chart table prices (priced .costs) (plainMachine chart))
-          (λ n c arrived s. record { at = arrived-right bytes chart (on .read) table (passing .equations) n c arrived prices (priced .costs); sure = s })
+      told-right : AtEachNode chart (ToldHere chart table prices (priced .costs)) ts cache
+      told-right =
+          at-nodes-both (plainMachine chart) (touches chart) (Arrives bytes chart (on .read) table (passing .equations)) (Sure chart table) (ToldHere chart table prices (priced .costs))
+          (λ n c arrived s. record { at = arrived-right bytes chart (on .read) table (passing .equations) n c arrived prices (priced .costs); told = s })
           (chart .header .entry) ts cache arriving sure
 
       pub passing-exactly : CostExactly chart prices ts cache (totals bytes table prices)
       passing-exactly =
-          let least = low-below chart table prices (priced .costs) (plainMachine chart) (chart .header .entry) ts cache right (within .no-less) in
-          let most = high-above chart table prices (priced .costs) (plainMachine chart) (chart .header .entry) ts cache right (within .no-more) in
-          let low = low-reached chart table prices (priced .costs) (plainMachine chart) (chart .header .entry) ts cache sure-right (λ n h. omega (arith, known .floors n h)) in
-          let high = high-reached chart table prices (priced .costs) (plainMachine chart) (chart .header .entry) ts cache sure-right (λ n h. omega (arith, known .ceilings n h)) in
+          let least = low-below (plainMachine chart) (touchClass chart) (touchedBy chart) (touches chart) (chart .header .nodes) (classesAt (planOf chart)) (tableOf (planOf chart) table) prices (priced .costs) (chart .header .entry) ts cache right (within .no-less) in
+          let most = high-above (plainMachine chart) (touchClass chart) (touchedBy chart) (touches chart) (chart .header .nodes) (classesAt (planOf chart)) (tableOf (planOf chart) table) prices (priced .costs) (chart .header .entry) ts cache right (within .no-more) in
+          let low = low-reached (plainMachine chart) (touchClass chart) (touchedBy chart) (touches chart) (chart .header .nodes) (classesAt (planOf chart)) (tableOf (planOf chart) table) prices (priced .costs) (chart .header .entry) ts cache told-right (λ n h. omega (arith, known .floors n h)) in
+          let high = high-reached (plainMachine chart) (touchClass chart) (touchedBy chart) (touches chart) (chart .header .nodes) (classesAt (planOf chart)) (tableOf (planOf chart) table) prices (priced .costs) (chart .header .entry) ts cache told-right (λ n h. omega (arith, known .ceilings n h)) in
           subst (CostExactly chart prices ts cache) (sym (totalling bytes chart table prices (on .read) .sums summable))
           record { given = refl; low = omega arith; high = omega arith }
 
@@ -110,24 +111,24 @@ given-summable bytes chart table prices read given = go (totals bytes table pric
 
 -- ---- the classes that the analysis writes
 
-module _ (bytes : List ℕ) (chart : Chart) (allowance passes blocks : ℕ) (lent : Buffers) (cache : Cache) (ts : List ℕ)
+module _ (bytes : List ℕ) (chart : Chart) (allowance passes blocks : ℕ) (lent : Buffers) (cache : Contents chart) (ts : List ℕ)
     (on : OnWalk bytes chart cache ts) (done : analysed bytes allowance lent .answer ≡ Settled passes blocks) where
   abbrev left : Buffers
   left = analysed bytes allowance lent .buffers
 
-  written-class : (n : ℕ) → n < chart .header .nodes → getD (left .classes) n 0 ≡ nodeClass chart n (cellAt (tableOf chart (tableIn left)) n)
+  written-class : (n : ℕ) → n < chart .header .nodes → getD (left .classes) n 0 ≡ nodeClass (planOf chart) n (cellAt (tableOf (planOf chart) (tableIn left)) n)
   written-class n h =
       let settles = demand2 .settled bytes chart allowance passes blocks lent (on .read) done in
-      let long = length-listOf (chart .header .nodes) (λ k. nodeClass chart k (cellAt (tableOf chart (tableIn left)) k)) in
+      let long = length-listOf (chart .header .nodes) (λ k. nodeClass (planOf chart) k (cellAt (tableOf (planOf chart) (tableIn left)) k)) in
       ap (λ (b : Buffers). getD (b .classes) n 0) (settles .filled)
-      ∙ ap (λ (T : List (Cell Ages)). getD (tableClasses chart T ++ drop (length (tableClasses chart T)) (lent .classes)) n 0) (sym (settles .table))
-      ∙ getD-written (tableClasses chart (tableOf chart (tableIn left))) (lent .classes) n 0 (omega arith)
-      ∙ getD-listOf (chart .header .nodes) (λ k. nodeClass chart k (cellAt (tableOf chart (tableIn left)) k)) 0 n h
+      ∙ ap (λ (T : List (Cell Ages)). getD (tableClasses (planOf chart) T ++ drop (length (tableClasses (planOf chart) T)) (lent .classes)) n 0) (sym (settles .table))
+      ∙ getD-written (tableClasses (planOf chart) (tableOf (planOf chart) (tableIn left))) (lent .classes) n 0 (omega arith)
+      ∙ getD-listOf (chart .header .nodes) (λ k. nodeClass (planOf chart) k (cellAt (tableOf (planOf chart) (tableIn left)) k)) 0 n h
 
-  abbrev laid : TablePasses chart (tableIn left)
+  abbrev laid : TablePasses (planOf chart) (tableIn left)
   laid = demand2 .settled bytes chart allowance passes blocks lent (on .read) done .table-passes
 
-  class-true : (n : ℕ) (c : Cache) → Arrives bytes chart (on .read) (tableIn left) (laid .equations) n c → ClassTrue chart (left .classes) n c
+  class-true : (n : ℕ) (c : Contents chart) → Arrives bytes chart (on .read) (tableIn left) (laid .equations) n c → ClassTrue chart (left .classes) n c
   class-true n c arrived =
       let says = arrived-true bytes chart (on .read) (tableIn left) (laid .equations) n c arrived in
       record {

@@ -4,7 +4,7 @@ use Prim.Native.Nat.{ℕ}
 use native.Mathlib.Omega.{arith}
 use Rattle.lists.proofs.Choice.{first-applies, applies-first}
 use Rattle.chart.specs.declared.headers.HeaderRead.the-variants.{Accepted as HeaderAccepted, Refused as HeaderRefused}
-use Rattle.chart.specs.Header.{headerIn, headerRules, headerRead}
+use Rattle.chart.specs.Header.{headerIn, bytesRules, headerRead}
 use Rattle.chart.specs.Chart.{accepted, refused, chartIn, chartRules, readChart}
 use Rattle.chart.specs.Reading.{readingOf}
 use Rattle.chart.proofs.Reader.{read-refuses}
@@ -21,8 +21,8 @@ reading-refusals =
       order = λ bytes. refl;
       given = λ bytes refusal f. first-applies refused (chartRules bytes) (accepted (chartIn bytes)) refusal f;
       only = λ bytes refusal e. applies-first refused (chartRules bytes) (accepted (chartIn bytes)) refusal (λ a b q. cc) (λ q. let z : _≡_ {A = ℕ} 0 1 = cc in omega arith) e;
-      header-given = λ bytes refusal f. first-applies HeaderRefused (headerRules bytes) (HeaderAccepted (headerIn bytes)) refusal f;
-      header-only = λ bytes refusal e. applies-first HeaderRefused (headerRules bytes) (HeaderAccepted (headerIn bytes)) refusal (λ a b q. cc) (λ q. let z : _≡_ {A = ℕ} 0 1 = cc in omega arith) e;
+      header-given = λ bytes refusal f. first-applies HeaderRefused (bytesRules bytes) (HeaderAccepted (headerIn bytes)) refusal f;
+      header-only = λ bytes refusal e. applies-first HeaderRefused (bytesRules bytes) (HeaderAccepted (headerIn bytes)) refusal (λ a b q. cc) (λ q. let z : _≡_ {A = ℕ} 0 1 = cc in omega arith) e;
       from-header = read-refuses;
       to-reader = λ bytes refusal e. rw e;
       to-analysis = λ bytes refusal allowance lent e. rw e;

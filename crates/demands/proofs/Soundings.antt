@@ -10,7 +10,7 @@ use Rattle.chart.specs.Layout.{wordAt}
 use Rattle.chart.specs.Header.{headerIn}
 use Rattle.chart.specs.Geometry.{blockOf, setOf, shapeAllowed}
 use Rattle.chart.specs.Record.{recordKeeps, recordOf, arrowsOf, touchesOf}
-use Rattle.chart.specs.Blocks.{gathered, overfull, placeIn}
+use Rattle.blocks.specs.Blocks.{gathered, overfull, placeIn}
 use Rattle.chart.specs.Reading.{readingOf}
 use Rattle.chart.specs.Chart.{firstBroken, firstOverfull, readChart}
 use Rattle.cache.specs.Plain.{has, without, touchSet, hits, touch, Different, AllOf}
@@ -18,12 +18,13 @@ use Rattle.cache.specs.Ages.{mustGrown, mayGrown, mustAfter, mayAfter, sameAges
 use Rattle.flow.specs.Walk.{visitsOf}
 use Rattle.flow.specs.Pass.{met, changes, metAt, put, putAll, visitWith, visit, visits, pass, before, settleFrom, settle}
 use Rattle.flow.proofs.Reaching.{onward-more}
-use Rattle.analysis.specs.Class.{classBy}
+use Rattle.classes.specs.Class.{classBy}
 use Rattle.analysis.specs.Analysis.{finish, analysed}
-use Rattle.checker.specs.Checker.{passes, checked}
-use Rattle.totals.specs.Totals.{totalOf, totals}
+use Rattle.checker.specs.Checker.{passes, checkedBy, checked}
+use Rattle.totals.specs.Totals.{totals}
+use Rattle.costs.specs.Costs.{totalBy}
 use Rattle.report.specs.Report.{report}
-use Rattle.demands.specs.Machine.{keyOf, Begins}
+use Rattle.machine.specs.Machine.{keyOf, plainMachine}
 use Rattle.demands.specs.Soundings.{Hold, starred, loopPrices, tenTurns}
 use Rattle.demands.specs.Refused.{damaged, unanalysed}
 use Rattle.demands.specs.Tabled.{unchecked, looser, untotalled, summed}
@@ -34,7 +35,7 @@ use Rattle.demands.specs.Sounded.{Sounded}
 
 -- All that has to be seen through for a definition to compute.
 everything : Unit {0}
-unfolding readingOf wordAt blockOf setOf shapeAllowed recordKeeps recordOf arrowsOf touchesOf gathered overfull placeIn firstBroken firstOverfull readChart has without touchSet hits touch mustGrown mayGrown mustAfter mayAfter sameAges touchAges meetAges startAges met changes metAt put putAll visitWith visit visits pass before settleFrom settle classBy finish analysed passes checked totalOf totals report
+unfolding readingOf wordAt blockOf setOf shapeAllowed recordKeeps recordOf arrowsOf touchesOf gathered overfull placeIn firstBroken firstOverfull readChart has without touchSet hits touch mustGrown mayGrown mustAfter mayAfter sameAges touchAges meetAges startAges met changes metAt put putAll visitWith visit visits pass before settleFrom settle classBy finish analysed passes checkedBy checked totalBy totals report
 everything = tt
 
 pub loop-nodes : headerIn loopChart .nodes ≡ 3
@@ -93,7 +94,7 @@ corners-hold : Hold corners
 unfolding everything
 corners-hold = refl
 
-strangers-formed : Begins unknownStart strangers
+strangers-formed : plainMachine unknownStart .Begins strangers
 unfolding everything
 strangers-formed = record { short = short; different = different; own = own }
   where

@@ -10,26 +10,27 @@ use mathlib.Core.Logic.{_⊎_}
 use lib.ListN.{length, replicate, getD}
 use Rattle.lists.specs.Choice.{FirstApplies, Rule, _⇒_}
 use Rattle.refusals.specs.declared.Refusal.{Refusal}
-use Rattle.refusals.specs.declared.Refusal.the-variants.{ShortBuffer, Unsettled, NotPassing}
+use Rattle.refusals.specs.declared.Refusal.the-variants.{ShortBuffer, NotPassing}
 use Rattle.chart.specs.declared.headers.HeaderRead.the-variants.{Refused as HeaderRefused}
 use Rattle.chart.specs.declared.readings.Verdict.the-variants.{Refused as ReaderRefused}
 use Rattle.chart.specs.Geometry.{mostBlocks}
-use Rattle.chart.specs.Header.{headerRules, headerRead, headerSays}
+use Rattle.chart.specs.Header.{bytesRules, headerRead, headerSays}
 use Rattle.chart.specs.Reading.{reading, verdictSays}
 use Rattle.chart.specs.Chart.{Chart, accepted, refused, readChart, chartRules, blockCount}
-use Rattle.refusals.specs.Refusals.{numberOf, refusalWith, refusalSays}
+use Rattle.refusals.specs.Refusals.{numberOf, placeOf, refusalSays}
 use Rattle.flow.specs.Pass.{pass, afterPasses}
-use Rattle.tables.specs.AgesFlow.{agesFlow}
-use Rattle.tables.specs.Lent.{Lent, tableShort, SameUsed, TablePasses}
+use Rattle.ages.specs.Charted.{planOf, agesFlow}
+use Rattle.costs.specs.Costs.{Prices, lowTotal, highTotal}
+use Rattle.tables.specs.Lent.{Lent, tableOf, tableShort, SameUsed, TablePasses}
 use Rattle.analysis.specs.Analysis.{Buffers, buffersShort, filledByZeros, refuse, analysed, analysedSays}
-use Rattle.analysis.specs.declared.Analysed.the-variants.{Settled}
+use Rattle.analysis.specs.declared.Analysed.the-variants.{Settled, Unsettled}
 use Rattle.analysis.specs.declared.Analysed.the-variants.{Refused as AnalysisRefused}
 use Rattle.checker.specs.declared.Checked.the-variants.{Passes, Fails}
 use Rattle.checker.specs.declared.Checked.the-variants.{Refused as CheckerRefused}
 use Rattle.checker.specs.Checker.{checked, checkedSays}
 use Rattle.totals.specs.declared.Totals.the-variants.{Between}
 use Rattle.totals.specs.declared.Totals.the-variants.{Refused as TotalsRefused}
-use Rattle.totals.specs.Totals.{Prices, totalRules, lowTotal, highTotal, totals, totalsSay}
+use Rattle.totals.specs.Totals.{totalRules, totals, totalsSay}
 
 -- Each of so many passes changes something.
 abbrev pub AllChange : Chart → ℕ → Type 0
@@ -55,8 +56,8 @@ pub record ReadingRefusals : Type 0 where
   pub given : (bytes : List ℕ) (refusal : Refusal) → FirstApplies (chartRules bytes) refusal → readChart bytes ≡ refused refusal
   pub only : (bytes : List ℕ) (refusal : Refusal) → readChart bytes ≡ refused refusal → FirstApplies (chartRules bytes) refusal
   -- reading the header alone gives 1 to 8, exactly by their rules, as reading the whole does
-  pub header-given : (bytes : List ℕ) (refusal : Refusal) → FirstApplies (headerRules bytes) refusal → headerRead bytes ≡ HeaderRefused refusal
-  pub header-only : (bytes : List ℕ) (refusal : Refusal) → headerRead bytes ≡ HeaderRefused refusal → FirstApplies (headerRules bytes) refusal
+  pub header-given : (bytes : List ℕ) (refusal : Refusal) → FirstApplies (bytesRules bytes) refusal → headerRead bytes ≡ HeaderRefused refusal
+  pub header-only : (bytes : List ℕ) (refusal : Refusal) → headerRead bytes ≡ HeaderRefused refusal → FirstApplies (bytesRules bytes) refusal
   pub from-header : (bytes : List ℕ) (refusal : Refusal) → headerRead bytes ≡ HeaderRefused refusal → readChart bytes ≡ refused refusal
   pub to-reader : (bytes : List ℕ) (refusal : Refusal) → readChart bytes ≡ refused refusal → reading bytes ≡ record { verdict = ReaderRefused refusal; blocks = replicate mostBlocks 0 }
   pub to-analysis : (bytes : List ℕ) (refusal : Refusal) (allowance : ℕ) (lent : Buffers)
@@ -73,18 +74,18 @@ pub record ReadingRefusals : Type 0 where
 
 -- The analysis of an accepted chart: 11 if a buffer is short; else 12 if every pass that is allowed changes something; else it settles.
 pub record AnalysisRefusals (bytes : List ℕ) (chart : Chart) (allowance : ℕ) (lent : Buffers) : Type 0 where
-  pub short : buffersShort chart lent ≡ true → analysed bytes allowance lent ≡ refuse lent ShortBuffer
-  pub unsettled : buffersShort chart lent ≡ false
+  pub short : buffersShort (planOf chart) lent ≡ true → analysed bytes allowance lent ≡ refuse lent ShortBuffer
+  pub unsettled : buffersShort (planOf chart) lent ≡ false
       → AllChange chart allowance
-      → analysed bytes allowance lent ≡ record { answer = AnalysisRefused (Unsettled allowance (blockCount chart)); buffers = filledByZeros chart lent }
-  pub settled : buffersShort chart lent ≡ false
+      → analysed bytes allowance lent ≡ record { answer = Unsettled allowance (blockCount chart); buffers = filledByZeros (planOf chart) (chart .blocks) lent }
+  pub settled : buffersShort (planOf chart) lent ≡ false
       → (AllChange chart allowance → ⊥)
       → (passes : ℕ) × (analysed bytes allowance lent .answer ≡ Settled passes (blockCount chart))
 
 -- The checker of an accepted chart's table: 11 if it is short, else yes or no.
 pub record CheckerRefusals (bytes : List ℕ) (chart : Chart) (table : Lent) : Type 0 where
-  pub short : tableShort chart table ≡ true → checked bytes table ≡ CheckerRefused ShortBuffer
-  pub answers : tableShort chart table ≡ false → (checked bytes table ≡ Passes) ⊎ (checked bytes table ≡ Fails)
+  pub short : tableShort (planOf chart) table ≡ true → checked bytes table ≡ CheckerRefused ShortBuffer
+  pub answers : tableShort (planOf chart) table ≡ false → (checked bytes table ≡ Passes) ⊎ (checked bytes table ≡ Fails)
 
 -- A floor and a ceiling for each node; "a miss costs at least a hit".
 pub record Priced (chart : Chart) (prices : Prices) : Type 0 where
@@ -94,7 +95,7 @@ pub record Priced (chart : Chart) (prices : Prices) : Type 0 where
 
 -- What has to hold for sums to be given: rows 11 and 13 to 17 turned round, as statements.
 pub record Summable (chart : Chart) (table : Lent) (prices : Prices) : Type 0 where
-  pub passes : TablePasses chart table
+  pub passes : TablePasses (planOf chart) table
   pub priced : Priced chart prices
   pub not-crossed : (n : ℕ) → n < chart .header .nodes → getD (prices .floors) n 0 ≤ getD (prices .ceilings) n 0
   pub none-unmarked : (n : ℕ) → n < chart .header .nodes → getD (table .marks) n 0 ≡ 0 → getD (prices .floors) n 0 ≡ 0
@@ -102,11 +103,11 @@ pub record Summable (chart : Chart) (table : Lent) (prices : Prices) : Type 0 wh
 -- The totals of an accepted chart: exactly the first of 11 and 13 to 17 that applies, else the two sums. 11 and 13 are the checker's
 -- refusal and its no.
 pub record TotalsRefusals (bytes : List ℕ) (chart : Chart) (table : Lent) (prices : Prices) : Type 0 where
-  pub given : (refusal : Refusal) → FirstApplies (totalRules chart table prices) refusal → totals bytes table prices ≡ TotalsRefused refusal
-  pub only : (refusal : Refusal) → totals bytes table prices ≡ TotalsRefused refusal → FirstApplies (totalRules chart table prices) refusal
-  pub order : numbersOf (totalRules chart table prices) ≡ 11 ∷ 13 ∷ 14 ∷ 15 ∷ 16 ∷ 17 ∷ []
+  pub given : (refusal : Refusal) → FirstApplies (totalRules (planOf chart) table prices) refusal → totals bytes table prices ≡ TotalsRefused refusal
+  pub only : (refusal : Refusal) → totals bytes table prices ≡ TotalsRefused refusal → FirstApplies (totalRules (planOf chart) table prices) refusal
+  pub order : numbersOf (totalRules (planOf chart) table prices) ≡ 11 ∷ 13 ∷ 14 ∷ 15 ∷ 16 ∷ 17 ∷ []
   pub sums : Summable chart table prices
-      → totals bytes table prices ≡ Between (lowTotal chart table prices) (highTotal chart table prices)
+      → totals bytes table prices ≡ Between (lowTotal (planOf chart) (tableOf (planOf chart) table) prices) (highTotal (planOf chart) (tableOf (planOf chart) table) prices)
   pub only-sums : (low high : ℕ) → totals bytes table prices ≡ Between low high → Summable chart table prices
   pub short : checked bytes table ≡ CheckerRefused ShortBuffer → totals bytes table prices ≡ TotalsRefused ShortBuffer
   pub fails : checked bytes table ≡ Fails → totals bytes table prices ≡ TotalsRefused NotPassing
@@ -128,28 +129,37 @@ pub record Demand1 : Type 0 where
   pub totals-numbers : (bytes : List ℕ) (table : Lent) (prices : Prices)
       → (totalsSay (totals bytes table prices) .number ≤ 17) × (totalsSay (totals bytes table prices) .number ≡ 12 → ⊥)
   -- "Every refusal returns its number and place, with pass count, block count and totals 0, save that 12 also returns the allowance
-  -- and B."
-  pub header-refusal : (bytes : List ℕ) (refusal : Refusal) → headerRead bytes ≡ HeaderRefused refusal → headerSays (headerRead bytes) ≡ refusalWith 0 0 refusal
-  pub reading-refusal : (bytes : List ℕ) (refusal : Refusal) → reading bytes .verdict ≡ ReaderRefused refusal → verdictSays (reading bytes .verdict) ≡ refusalWith 0 0 refusal
+  -- and B": an answer has those of them that its function returns, the header's and the checker's none
+  pub header-refusal : (bytes : List ℕ) (refusal : Refusal) → headerRead bytes ≡ HeaderRefused refusal → headerSays (headerRead bytes) ≡ refusalSays refusal
+  pub reading-refusal : (bytes : List ℕ) (refusal : Refusal)
+      → reading bytes .verdict ≡ ReaderRefused refusal
+      → verdictSays (reading bytes .verdict) ≡ record { number = numberOf refusal; place = placeOf refusal; blocks = 0 }
   pub analysis-refusal : (bytes : List ℕ) (allowance : ℕ) (lent : Buffers) (refusal : Refusal)
       → analysed bytes allowance lent .answer ≡ AnalysisRefused refusal
-      → (numberOf refusal ≡ 12 → ⊥)
-      → analysedSays (analysed bytes allowance lent .answer) ≡ refusalWith 0 0 refusal
-  pub checker-refusal : (bytes : List ℕ) (table : Lent) (refusal : Refusal) → checked bytes table ≡ CheckerRefused refusal → checkedSays (checked bytes table) ≡ refusalWith 0 0 refusal
+      → analysedSays (analysed bytes allowance lent .answer) ≡ record { number = numberOf refusal; place = placeOf refusal; passes = 0; blocks = 0 }
+  -- 12 is never told as another refusal is: it comes with its values
+  pub analysis-refused : (bytes : List ℕ) (allowance : ℕ) (lent : Buffers) (refusal : Refusal)
+      → analysed bytes allowance lent .answer ≡ AnalysisRefused refusal
+      → numberOf refusal ≤ 11
+  pub analysis-unsettled : (bytes : List ℕ) (chart : Chart) (allowance : ℕ) (lent : Buffers)
+      → readChart bytes ≡ accepted chart
+      → analysedSays (analysed bytes allowance lent .answer) .number ≡ 12
+      → analysedSays (analysed bytes allowance lent .answer) ≡ record { number = 12; place = 0; passes = allowance; blocks = blockCount chart }
+  pub checker-refusal : (bytes : List ℕ) (table : Lent) (refusal : Refusal)
+      → checked bytes table ≡ CheckerRefused refusal
+      → checkedSays (checked bytes table) ≡ record { number = numberOf refusal; place = placeOf refusal; yes = 0 }
   pub totals-refusal : (bytes : List ℕ) (table : Lent) (prices : Prices) (refusal : Refusal)
       → totals bytes table prices ≡ TotalsRefused refusal
-      → totalsSay (totals bytes table prices) ≡ refusalWith 0 0 refusal
-  pub refusal-values : (refusal : Refusal) → (numberOf refusal ≡ 12 → ⊥) → refusalSays refusal ≡ refusalWith 0 0 refusal
-  pub unsettled-values : (allowance blocks : ℕ) → refusalSays (Unsettled allowance blocks) ≡ refusalWith allowance blocks (Unsettled allowance blocks)
+      → totalsSay (totals bytes table prices) ≡ record { number = numberOf refusal; place = placeOf refusal; low = 0; high = 0 }
   -- no buffer grows or shrinks
   pub same-lengths : (bytes : List ℕ) (allowance : ℕ) (lent : Buffers) → SameLengths lent (analysed bytes allowance lent .buffers)
   -- "Both read only the used parts of a lent table; neither writes to anything lent": what is lent to them are `&` slices, which cannot
   -- be written to
   pub checker-used : (bytes : List ℕ) (chart : Chart) (one other : Lent)
       → readChart bytes ≡ accepted chart
-      → SameUsed chart one other
+      → SameUsed (planOf chart) one other
       → checked bytes one ≡ checked bytes other
   pub totals-used : (bytes : List ℕ) (chart : Chart) (one other : Lent) (prices : Prices)
       → readChart bytes ≡ accepted chart
-      → SameUsed chart one other
+      → SameUsed (planOf chart) one other
       → totals bytes one prices ≡ totals bytes other prices

@@ -1,20 +1,21 @@
 -- Demand 2, as those who ordered the tool put it: "Ages are those of the published LRU must and may analysis. A checker passes a table
 -- exactly when it meets the equations of document 01. The built-in analysis is refused only as 01 lists; otherwise its table passes and is
 -- the tightest of all that pass."
--- (The ages are those of that analysis by definition: cache/specs/Ages.antt. That the analysis is refused only as 01 lists is
+-- (The ages are those of that analysis by definition: cache/specs/Ages.antt, over columns whose keys stand for their blocks' sets, as
+-- `keys-sets` and `sets-keys` say. That the analysis is refused only as 01 lists is
 -- `Demand1.readings` and `Demand1.analysis`.)
 -- Proved as `demand2` in proofs/Demand2.antt.
 use Prim.Native.Nat.{ℕ, suc, _≤_, _<_}
 use mathlib.Core.Path.{_≡_}
 use mathlib.Core.Bool.{true, false}
 use mathlib.Core.List.{List}
-use Rattle.chart.specs.Geometry.{mostNodes, mostBlocks}
+use Rattle.chart.specs.Geometry.{mostNodes, mostBlocks, allPasses}
 use Rattle.chart.specs.Chart.{Chart, accepted, readChart, arrows, blockCount}
 use Rattle.flow.specs.Flow.{cellAt}
 use Rattle.flow.specs.Passing.{Marked, Tightest}
 use Rattle.flow.specs.Pass.{pass, afterPasses}
 use Rattle.flow.specs.Walk.{Reached}
-use Rattle.tables.specs.AgesFlow.{agesFlow, mostPasses, allPasses}
+use Rattle.ages.specs.Charted.{setAt, keyAt, planOf, agesFlow, mostPasses}
 use Rattle.tables.specs.Lent.{Lent, tableOf, TablePasses}
 use Rattle.analysis.specs.declared.Analysed.the-variants.{Settled}
 use Rattle.analysis.specs.Analysis.{Buffers, buffersShort, filledBy, tableIn, analysed}
@@ -36,25 +37,28 @@ pub record Settles (chart : Chart) (passes blocks : ℕ) (lent left : Buffers) :
   -- "It is at most N(1 + 2BA) + 1"
   pub count : passes ≤ mostPasses chart
   -- all five buffers, by the table after that many passes: blocks, ages, marks and classes written, tails kept
-  pub filled : left ≡ filledBy chart (afterPasses (agesFlow chart) passes) lent
-  pub table : tableOf chart (tableIn left) ≡ afterPasses (agesFlow chart) passes
+  pub filled : left ≡ filledBy (planOf chart) (chart .blocks) (afterPasses (agesFlow chart) passes) lent
+  pub table : tableOf (planOf chart) (tableIn left) ≡ afterPasses (agesFlow chart) passes
   -- "its table passes"
-  pub table-passes : TablePasses chart (tableIn left)
+  pub table-passes : TablePasses (planOf chart) (tableIn left)
   -- "and is the tightest of all that pass"
-  pub tightest : Tightest (agesFlow chart) (tableOf chart (tableIn left))
+  pub tightest : Tightest (agesFlow chart) (tableOf (planOf chart) (tableIn left))
   -- "The tightest marks a node exactly if a walk reaches it."
-  pub marked-reached : (n : ℕ) → Marked (cellAt (tableOf chart (tableIn left)) n) → Reached (arrows chart) (chart .header .entry) n
-  pub reached-marked : (n : ℕ) → Reached (arrows chart) (chart .header .entry) n → Marked (cellAt (tableOf chart (tableIn left)) n)
+  pub marked-reached : (n : ℕ) → Marked (cellAt (tableOf (planOf chart) (tableIn left)) n) → Reached (arrows chart) (chart .header .entry) n
+  pub reached-marked : (n : ℕ) → Reached (arrows chart) (chart .header .entry) n → Marked (cellAt (tableOf (planOf chart) (tableIn left)) n)
 
 pub record Demand2 : Type 0 where
+  -- two columns have one key exactly if their blocks are of one set
+  pub keys-sets : (chart : Chart) (i j : ℕ) → keyAt chart i ≡ keyAt chart j → setAt chart i ≡ setAt chart j
+  pub sets-keys : (chart : Chart) (i j : ℕ) → setAt chart i ≡ setAt chart j → keyAt chart i ≡ keyAt chart j
   -- the checker says yes exactly if the table passes
   pub checker-yes : (bytes : List ℕ) (chart : Chart) (table : Lent)
       → readChart bytes ≡ accepted chart
       → CheckerPasses bytes table
-      → TablePasses chart table
+      → TablePasses (planOf chart) table
   pub yes-checker : (bytes : List ℕ) (chart : Chart) (table : Lent)
       → readChart bytes ≡ accepted chart
-      → TablePasses chart table
+      → TablePasses (planOf chart) table
       → CheckerPasses bytes table
   -- an analysis that settles leaves the tightest table, which the checker passes
   pub settled : (bytes : List ℕ) (chart : Chart) (allowance passes blocks : ℕ) (lent : Buffers)
@@ -67,7 +71,7 @@ pub record Demand2 : Type 0 where
   -- an accepted chart with room settles within every allowance of at least N(1 + 2BA) + 1 passes
   pub enough : (bytes : List ℕ) (chart : Chart) (allowance : ℕ) (lent : Buffers)
       → readChart bytes ≡ accepted chart
-      → buffersShort chart lent ≡ false
+      → buffersShort (planOf chart) lent ≡ false
       → mostPasses chart ≤ allowance
       → (passes : ℕ) × (analysed bytes allowance lent .answer ≡ Settled passes (blockCount chart))
   -- so the analysis settles with the program's allowance, 262,401, and buffers, which have room for the largest chart

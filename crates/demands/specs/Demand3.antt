@@ -7,29 +7,30 @@ use mathlib.Core.Path.{_≡_}
 use mathlib.Core.Bool.{true, false}
 use mathlib.Core.List.{List, [], _∷_}
 use lib.ListN.{getD}
-use Rattle.chart.specs.Chart.{Chart, accepted, readChart, arrows, touches, blockCount}
-use Rattle.cache.specs.Ages.{ageOf}
-use Rattle.cache.specs.Plain.{Cache, Formed}
+use Rattle.chart.specs.Record.{Touch}
+use Rattle.chart.specs.Chart.{Chart, accepted, readChart, arrows, touches}
+use Rattle.cache.specs.Ages.{Ages}
 use Rattle.flow.specs.Flow.{cellAt}
 use Rattle.flow.specs.Passing.{Marked}
 use Rattle.flow.specs.Walk.{Walk, visitsOf, AtTouches, AtNodes}
-use Rattle.tables.specs.AgesFlow.{touched}
+use Rattle.ages.specs.Charted.{columnTouch, planOf, touchedBy}
+use Rattle.classes.specs.Class.{unreached, hit, miss, classOf, nodeClass, CalledRight, AllTold}
+use Rattle.machine.specs.Machine.{plainMachine, Contents, AgesTrue, costOf}
+use Rattle.costs.specs.Costs.{Prices, classesAt}
 use Rattle.tables.specs.Lent.{Lent, agesAt, tableOf}
 use Rattle.analysis.specs.declared.Analysed.the-variants.{Settled}
-use Rattle.analysis.specs.Class.{unreached, hit, miss, nodeClass, CalledRight, classesOf, NoneUnsure}
 use Rattle.analysis.specs.Analysis.{Buffers, analysed}
 use Rattle.totals.specs.declared.Totals.{Totals}
-use Rattle.totals.specs.Totals.{Prices, totals, totalsSay}
-use Rattle.demands.specs.Machine.{waysOf, keyOf, plainMachine, Begins, ageWith, costOf}
+use Rattle.totals.specs.Totals.{totals, totalsSay}
 use Rattle.demands.specs.Demand1.{Priced}
 use Rattle.demands.specs.Demand2.{CheckerPasses}
 
 -- ---- what is given
 
 -- A chart that the bytes read as, starting contents that the chart allows, and a walk.
-pub record OnWalk (bytes : List ℕ) (chart : Chart) (cache : Cache) (ts : List ℕ) : Type 0 where
+pub record OnWalk (bytes : List ℕ) (chart : Chart) (contents : Contents chart) (ts : List ℕ) : Type 0 where
   pub read : readChart bytes ≡ accepted chart
-  pub begins : Begins chart cache
+  pub begins : plainMachine chart .Begins contents
   pub walk : Walk (arrows chart) (chart .header .entry) ts
 
 -- "visits lie between floors and ceilings"
@@ -42,57 +43,56 @@ pub record VisitsKnown (chart : Chart) (prices : Prices) (ts : List ℕ) : Type 
   pub floors : (n : ℕ) → n < chart .header .nodes → getD (prices .floors) n 0 ≡ visitsOf n (chart .header .entry ∷ ts)
   pub ceilings : (n : ℕ) → n < chart .header .nodes → getD (prices .ceilings) n 0 ≡ visitsOf n (chart .header .entry ∷ ts)
 
--- By a table, no reference of a node is unsure.
-abbrev pub Sure : Chart → Lent → ℕ → Cache → Type 0
-Sure chart table n cache = NoneUnsure (classesOf chart (touches chart n) (agesAt chart table n))
+-- By a table, each reference of a node is a hit or a miss.
+abbrev pub Sure : (chart : Chart) → Lent → ℕ → Contents chart → Type 0
+Sure chart table n contents = AllTold (classesAt (planOf chart) n (agesAt (planOf chart) table n))
 
 -- ---- what is promised
 
+-- A touch called a hit, by the ages just before it, is found by the machine, and one called a miss is not.
+abbrev pub TouchRight : (chart : Chart) → Touch → Ages → Contents chart → Type 0
+TouchRight chart touch a contents =
+    CalledRight (classOf (planOf chart) (columnTouch chart touch) a) (plainMachine chart .finds touch contents)
+
 -- What a table says of a node, where the machine arrives with these contents.
-pub record SaysTrue (chart : Chart) (table : Lent) (n : ℕ) (cache : Cache) : Type 0 where
-  pub marked : Marked (cellAt (tableOf chart table) n)
-  -- the contents still are lists "of at most A different blocks of that set"
-  pub formed : Formed (waysOf chart) (keyOf chart) cache
-  -- "a must age (upper bound, 0 to A) and a may age (lower bound, 0 to A)"
-  pub must-above : (column : ℕ)
-      → column < blockCount chart
-      → ageWith chart cache (getD (chart .blocks) column 0) ≤ ageOf (agesAt chart table n .must) column
-  pub may-below : (column : ℕ)
-      → column < blockCount chart
-      → ageOf (agesAt chart table n .may) column ≤ ageWith chart cache (getD (chart .blocks) column 0)
+pub record SaysTrue (chart : Chart) (table : Lent) (n : ℕ) (contents : Contents chart) : Type 0 where
+  pub marked : Marked (cellAt (tableOf (planOf chart) table) n)
+  -- the contents still are of the machine's form, no block is older than its must age, and none is younger than its may age (`Bounds` of
+  -- the crate `cache`)
+  pub ages-true : AgesTrue chart (agesAt (planOf chart) table n) contents
   -- a node that makes one reference: called a hit it hits, called a miss it misses
-  pub node-hit : (block : ℕ)
-      → touches chart n ≡ block ∷ []
-      → nodeClass chart n (cellAt (tableOf chart table) n) ≡ hit
-      → plainMachine chart .finds block cache ≡ true
-  pub node-miss : (block : ℕ)
-      → touches chart n ≡ block ∷ []
-      → nodeClass chart n (cellAt (tableOf chart table) n) ≡ miss
-      → plainMachine chart .finds block cache ≡ false
+  pub node-hit : (touch : Touch)
+      → touches chart n ≡ touch ∷ []
+      → nodeClass (planOf chart) n (cellAt (tableOf (planOf chart) table) n) ≡ hit
+      → plainMachine chart .finds touch contents ≡ true
+  pub node-miss : (touch : Touch)
+      → touches chart n ≡ touch ∷ []
+      → nodeClass (planOf chart) n (cellAt (tableOf (planOf chart) table) n) ≡ miss
+      → plainMachine chart .finds touch contents ≡ false
   -- and each touch of a node, in turn, however many there are
-  pub called-right : AtTouches (touched chart) (plainMachine chart .act) (CalledRight chart (plainMachine chart)) (touches chart n) (agesAt chart table n) cache
+  pub called-right : AtTouches (touchedBy chart) (plainMachine chart .act) (TouchRight chart) (touches chart n) (agesAt (planOf chart) table n) contents
 
 -- The class that a buffer has for a node is right where the machine arrives with these contents.
-pub record ClassTrue (chart : Chart) (classes : List ℕ) (n : ℕ) (cache : Cache) : Type 0 where
+pub record ClassTrue (chart : Chart) (classes : List ℕ) (n : ℕ) (contents : Contents chart) : Type 0 where
   pub reached : getD classes n 0 ≡ unreached → ⊥
-  pub hit-hits : (block : ℕ) → touches chart n ≡ block ∷ [] → getD classes n 0 ≡ hit → plainMachine chart .finds block cache ≡ true
-  pub miss-misses : (block : ℕ) → touches chart n ≡ block ∷ [] → getD classes n 0 ≡ miss → plainMachine chart .finds block cache ≡ false
+  pub hit-hits : (touch : Touch) → touches chart n ≡ touch ∷ [] → getD classes n 0 ≡ hit → plainMachine chart .finds touch contents ≡ true
+  pub miss-misses : (touch : Touch) → touches chart n ≡ touch ∷ [] → getD classes n 0 ≡ miss → plainMachine chart .finds touch contents ≡ false
 
 -- It holds at each node of the walk, with the contents that the machine arrives with there.
-abbrev pub AtEachNode : Chart → (ℕ → Cache → Type 0) → List ℕ → Cache → Type 0
-AtEachNode chart P ts cache = AtNodes (plainMachine chart) P (touches chart) (chart .header .entry) ts cache
+abbrev pub AtEachNode : (chart : Chart) → (ℕ → Contents chart → Type 0) → List ℕ → Contents chart → Type 0
+AtEachNode chart P ts contents = AtNodes (plainMachine chart) P (touches chart) (chart .header .entry) ts contents
 
 -- An answer is no refusal, and the cost that the machine counts lies between the two totals that it returns.
-pub record CostBetween (chart : Chart) (prices : Prices) (ts : List ℕ) (cache : Cache) (answer : Totals) : Type 0 where
+pub record CostBetween (chart : Chart) (prices : Prices) (ts : List ℕ) (contents : Contents chart) (answer : Totals) : Type 0 where
   pub given : totalsSay answer .number ≡ 0
-  pub no-less : totalsSay answer .low ≤ costOf chart (prices .hitCost) (prices .missCost) ts cache
-  pub no-more : costOf chart (prices .hitCost) (prices .missCost) ts cache ≤ totalsSay answer .high
+  pub no-less : totalsSay answer .low ≤ costOf chart (prices .hitCost) (prices .missCost) ts contents
+  pub no-more : costOf chart (prices .hitCost) (prices .missCost) ts contents ≤ totalsSay answer .high
 
 -- An answer is no refusal, and both its totals are the cost that the machine counts.
-pub record CostExactly (chart : Chart) (prices : Prices) (ts : List ℕ) (cache : Cache) (answer : Totals) : Type 0 where
+pub record CostExactly (chart : Chart) (prices : Prices) (ts : List ℕ) (contents : Contents chart) (answer : Totals) : Type 0 where
   pub given : totalsSay answer .number ≡ 0
-  pub low : totalsSay answer .low ≡ costOf chart (prices .hitCost) (prices .missCost) ts cache
-  pub high : totalsSay answer .high ≡ costOf chart (prices .hitCost) (prices .missCost) ts cache
+  pub low : totalsSay answer .low ≡ costOf chart (prices .hitCost) (prices .missCost) ts contents
+  pub high : totalsSay answer .high ≡ costOf chart (prices .hitCost) (prices .missCost) ts contents
 
 -- ---- the demand
 -- The answers of the functions come in by their contracts: `checker::check` answers `checked`, `totals::total` answers `totals`, and
@@ -100,36 +100,36 @@ pub record CostExactly (chart : Chart) (prices : Prices) (ts : List ℕ) (cache 
 
 pub record Demand3 : Type 0 where
   -- whatever table the checker passes, at each step of the walk
-  pub says-true : (bytes : List ℕ) (chart : Chart) (table : Lent) (cache : Cache) (ts : List ℕ)
-      → OnWalk bytes chart cache ts
+  pub says-true : (bytes : List ℕ) (chart : Chart) (table : Lent) (contents : Contents chart) (ts : List ℕ)
+      → OnWalk bytes chart contents ts
       → CheckerPasses bytes table
-      → AtEachNode chart (SaysTrue chart table) ts cache
+      → AtEachNode chart (SaysTrue chart table) ts contents
   -- so, too, the classes that the analysis has written
-  pub written-true : (bytes : List ℕ) (chart : Chart) (allowance passes blocks : ℕ) (lent : Buffers) (cache : Cache) (ts : List ℕ)
-      → OnWalk bytes chart cache ts
+  pub written-true : (bytes : List ℕ) (chart : Chart) (allowance passes blocks : ℕ) (lent : Buffers) (contents : Contents chart) (ts : List ℕ)
+      → OnWalk bytes chart contents ts
       → analysed bytes allowance lent .answer ≡ Settled passes blocks
-      → AtEachNode chart (ClassTrue chart (analysed bytes allowance lent .buffers .classes)) ts cache
+      → AtEachNode chart (ClassTrue chart (analysed bytes allowance lent .buffers .classes)) ts contents
   -- whatever table the checker passes, the totals are given, and the cost lies between them
-  pub cost-between : (bytes : List ℕ) (chart : Chart) (table : Lent) (prices : Prices) (cache : Cache) (ts : List ℕ) (answer : Totals)
-      → OnWalk bytes chart cache ts
+  pub cost-between : (bytes : List ℕ) (chart : Chart) (table : Lent) (prices : Prices) (contents : Contents chart) (ts : List ℕ) (answer : Totals)
+      → OnWalk bytes chart contents ts
       → CheckerPasses bytes table
       → Priced chart prices
       → VisitsWithin chart prices ts
       → answer ≡ totals bytes table prices
-      → CostBetween chart prices ts cache answer
+      → CostBetween chart prices ts contents answer
   -- and wherever totals are given, the cost lies between them, with nothing else to ask of the table or the prices
-  pub given-between : (bytes : List ℕ) (chart : Chart) (table : Lent) (prices : Prices) (cache : Cache) (ts : List ℕ) (answer : Totals)
-      → OnWalk bytes chart cache ts
+  pub given-between : (bytes : List ℕ) (chart : Chart) (table : Lent) (prices : Prices) (contents : Contents chart) (ts : List ℕ) (answer : Totals)
+      → OnWalk bytes chart contents ts
       → VisitsWithin chart prices ts
       → answer ≡ totals bytes table prices
       → totalsSay answer .number ≡ 0
-      → CostBetween chart prices ts cache answer
-  -- (beyond the demand: where nothing on the walk is unsure and the visits are known, both totals are the cost)
-  pub cost-exactly : (bytes : List ℕ) (chart : Chart) (table : Lent) (prices : Prices) (cache : Cache) (ts : List ℕ) (answer : Totals)
-      → OnWalk bytes chart cache ts
+      → CostBetween chart prices ts contents answer
+  -- (beyond the demand: where everything on the walk is called a hit or a miss and the visits are known, both totals are the cost)
+  pub cost-exactly : (bytes : List ℕ) (chart : Chart) (table : Lent) (prices : Prices) (contents : Contents chart) (ts : List ℕ) (answer : Totals)
+      → OnWalk bytes chart contents ts
       → CheckerPasses bytes table
       → Priced chart prices
       → VisitsKnown chart prices ts
-      → AtEachNode chart (Sure chart table) ts cache
+      → AtEachNode chart (Sure chart table) ts contents
       → answer ≡ totals bytes table prices
-      → CostExactly chart prices ts cache answer
+      → CostExactly chart prices ts contents answer

@@ -2,7 +2,6 @@ pub mod Demands
 pub mod Demand1
 pub mod Demand2
 pub mod Demand3
-pub mod Machine
 pub mod Charts
 pub mod Soundings
 pub mod Refused

@@ -6,23 +6,25 @@ use mathlib.Core.List.{List, [], _∷_}
 use lib.ListN.{replicate}
 use lib.Dec.{eqb, ltb, leb}
 use Rattle.lists.specs.Lists.{listOf}
+use Rattle.chart.specs.Geometry.{allPasses}
 use Rattle.chart.specs.Chart.{Chart, chartIn, blockCount}
 use Rattle.cache.specs.Ages.{Ages, ageOf, meetAges, startAges}
 use Rattle.flow.specs.Pass.{Outcome, settled, spent, settle}
-use Rattle.tables.specs.AgesFlow.{columns, flowBy, agesFlow, allPasses}
-use Rattle.analysis.specs.Class.{tableClasses}
+use Rattle.ages.specs.Plan.{columnsOf, flowBy}
+use Rattle.ages.specs.Charted.{planOf, agesFlow}
+use Rattle.classes.specs.Class.{tableClasses}
 use Rattle.demands.specs.Charts.{oneSetTwoWaysEmpty, oneSetTwoWays, twoSetsOneWay, straightChart, entryLoopChart}
 use Rattle.demands.specs.Soundings.{Sounding, _reads_, classesFor, mustTouched, mayTouched, row}
 
 -- ---- an analysis with a start and a step of its own
 
 abbrev pub classesAfter : Chart → Outcome Ages → List ℕ
-classesAfter chart (settled passes table) = tableClasses chart table
+classesAfter chart (settled passes table) = tableClasses (planOf chart) table
 classesAfter chart spent = []
 
 -- The classes, in a chart, of an analysis that starts and steps so.
 abbrev pub readsBy : Chart → Ages → (ℕ → Ages → Ages) → List ℕ
-readsBy chart start step = classesAfter chart (settle (flowBy chart start step) allPasses)
+readsBy chart start step = classesAfter chart (settle (flowBy (planOf chart) start step) allPasses)
 
 -- ---- the mistakes
 
@@ -62,11 +64,11 @@ zeroRow chart = record { must = replicate (blockCount chart) 0; may = replicate 
 
 abbrev pub zeroRowMet : Chart → List ℕ
 zeroRowMet chart =
-    readsBy chart (agesFlow chart .start) (λ n a. meetAges (columns chart) (zeroRow chart) (agesFlow chart .step n a))
+    readsBy chart (agesFlow chart .start) (λ n a. meetAges (columnsOf (planOf chart)) (zeroRow chart) (agesFlow chart .step n a))
 
 -- 5. "Starting may as empty when the contents are unknown."
 abbrev pub startedEmpty : Chart → List ℕ
-startedEmpty chart = readsBy chart (startAges (columns chart) true) (agesFlow chart .step)
+startedEmpty chart = readsBy chart (startAges (columnsOf (planOf chart)) true) (agesFlow chart .step)
 
 -- ---- what is right, and what each mistake reads
 

@@ -4,20 +4,15 @@
 use Prim.Native.Nat.{ℕ}
 use mathlib.Core.List.{List, [], _∷_, _++_}
 use lib.ListN.{replicate, set, take}
-use Rattle.refusals.specs.Refusals.{Said}
 use Rattle.chart.specs.Reading.{reading, verdictSays}
 use Rattle.analysis.specs.Analysis.{Buffers, analysed, analysedSays}
 use Rattle.demands.specs.Charts.{loopChart}
 use Rattle.demands.specs.Soundings.{Sounding, _reads_}
 
--- The number and the place.
-abbrev pub numberAndPlace : Said → List ℕ
-numberAndPlace said = said .number ∷ said .place ∷ []
-
 -- ---- 1 to 9, by the reader
 
 abbrev pub read : List ℕ → List ℕ
-read bytes = numberAndPlace (verdictSays (reading bytes .verdict))
+read bytes = verdictSays (reading bytes .verdict) .number ∷ verdictSays (reading bytes .verdict) .place ∷ []
 
 -- The number and the place that the reader says.
 abbrev pub damaged : List Sounding
@@ -44,12 +39,25 @@ damaged =
     ∷ (read (set loopChart 11 0x04) reads (9 ∷ 0 ∷ []))
     ∷ (read (set loopChart 23 0x30) reads (9 ∷ 1 ∷ []))
     ∷ (read (set loopChart 29 0x01) reads (9 ∷ 2 ∷ []))
+    -- three arrows at node 1; a spare bit at node 2; an unused second arrow at node 0
+    ∷ (read (set loopChart 20 0x30) reads (9 ∷ 1 ∷ []))
+    ∷ (read (set loopChart 31 0x01) reads (9 ∷ 2 ∷ []))
+    ∷ (read (set loopChart 15 0x10) reads (9 ∷ 0 ∷ []))
+    -- L 9; L 2 and 8, S 8, A 8 are allowed
+    ∷ (read (set loopChart 1 0x90) reads (3 ∷ 0 ∷ []))
+    ∷ (read (set loopChart 1 0x20) reads (0 ∷ 0 ∷ []))
+    ∷ (read (set loopChart 1 0x80) reads (0 ∷ 0 ∷ []))
+    ∷ (read (set loopChart 1 0x48) reads (0 ∷ 0 ∷ []))
+    ∷ (read (set loopChart 2 0x84) reads (0 ∷ 0 ∷ []))
     ∷ []
 
 -- ---- 11 and 12, by the analysis of the loop chart: three nodes, one block
 
 abbrev pub analysing : ℕ → Buffers → List ℕ
-analysing allowance lent = numberAndPlace (analysedSays (analysed loopChart allowance lent .answer))
+analysing allowance lent =
+    analysedSays (analysed loopChart allowance lent .answer) .number
+    ∷ analysedSays (analysed loopChart allowance lent .answer) .place
+    ∷ []
 
 -- Buffers of these lengths, all sevens.
 abbrev pub sevens : ℕ → ℕ → ℕ → ℕ → ℕ → Buffers

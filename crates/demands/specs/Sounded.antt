@@ -4,16 +4,16 @@ use mathlib.Core.Path.{_≡_}
 use Prim.Native.Nat.{ℕ, _<_}
 use mathlib.Core.List.{List, [], _∷_, _++_}
 use Rattle.cache.specs.Plain.{emptyCache}
-use Rattle.flow.specs.Flow.{Among}
+use Rattle.lists.specs.Lists.{Among}
 use Rattle.flow.specs.Walk.{Walk, lastOf}
-use Rattle.tables.specs.AgesFlow.{allPasses}
 use Rattle.analysis.specs.Analysis.{tableIn}
 use Rattle.checker.specs.declared.Checked.the-variants.{Passes}
 use Rattle.checker.specs.Checker.{checked}
 use Rattle.totals.specs.declared.Totals.the-variants.{Between}
 use Rattle.totals.specs.Totals.{totals}
-use Rattle.report.specs.Report.{longest, report}
-use Rattle.demands.specs.Machine.{Begins}
+use Rattle.chart.specs.Geometry.{longestChart, allPasses}
+use Rattle.report.specs.Report.{report}
+use Rattle.machine.specs.Machine.{plainMachine}
 use Rattle.demands.specs.Demand3.{OnWalk, VisitsWithin, AtEachNode}
 use Rattle.demands.specs.Charts.{loopChart, loopReport}
 use Rattle.demands.specs.Soundings.{Hold, starred, after, loopPrices, loop, tenTurns}
@@ -37,13 +37,13 @@ pub record Sounded : Type 0 where
       → Among t (arrows (lastOf entry ts))
       → Walk arrows entry (ts ++ t ∷ [])
   -- where the contents are unknown, they may have blocks that the chart does not have
-  pub strangers-begin : Begins unknownStart strangers
+  pub strangers-begin : plainMachine unknownStart .Begins strangers
   -- the loop chart's table passes, and its totals are 2 and 101: what the program `soundings` runs
   pub loop-checked : checked loopChart (tableIn (after loopChart)) ≡ Passes
   pub loop-totals : totals loopChart (tableIn (after loopChart)) loopPrices ≡ Between 2 101
   -- "A chart and its report, whole", and the numbers that the program goes by
   pub sample-report : report loopChart ≡ loopReport
-  pub longest-chart : longest ≡ 2056
+  pub longest-chart : longestChart ≡ 2056
   pub passes-allowed : allPasses ≡ 262401
   -- every refusal but 10: by the reader, the analysis, the checker and the totals; tables that pass, and sums
   pub damaged-hold : Hold damaged

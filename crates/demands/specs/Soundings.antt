@@ -4,22 +4,23 @@ use Prim.Native.Nat.{ℕ}
 use mathlib.Core.Path.{_≡_}
 use mathlib.Core.List.{List, [], _∷_, _++_, map}
 use lib.ListN.{replicate}
+use Rattle.chart.specs.Geometry.{allPasses}
 use Rattle.chart.specs.Header.{headerIn}
 use Rattle.chart.specs.Chart.{Chart, chartIn}
 use Rattle.cache.specs.Ages.{Columns, Ages, touchAges, meetAges}
 use Rattle.cache.specs.Plain.{emptyCache}
-use Rattle.tables.specs.AgesFlow.{allPasses}
+use Rattle.costs.specs.Costs.{Prices}
 use Rattle.analysis.specs.Analysis.{Buffers, tableIn, analysed}
-use Rattle.totals.specs.Totals.{Prices, totals, totalsSay}
+use Rattle.totals.specs.Totals.{totals, totalsSay}
 use Rattle.report.specs.Report.{zeroBuffers}
-use Rattle.demands.specs.Machine.{costOf}
+use Rattle.machine.specs.Machine.{costOf}
 use Rattle.demands.specs.Charts.{oneSetTwoWaysEmpty, oneSetTwoWays, oneSetOneWay, twoSetsOneWay, loopChart, straightChart}
 
 -- ---- how each is read off the definitions
 
 -- "Four ways, one set, blocks a b c d e" are columns 0 to 4.
 abbrev pub fourWays : ℕ → Columns
-fourWays count = record { count = count; key = λ block. 0; limit = λ block. 4 }
+fourWays count = record { count = count; key = λ block. 0; mustLimit = λ block. 4; mayLimit = λ block. 4 }
 
 abbrev pub mustTouched : List ℕ → ℕ → List ℕ
 mustTouched row m = touchAges (fourWays 5) m (record { must = row; may = row }) .must

@@ -6,7 +6,8 @@ use lib.ListN.{set, take}
 use Rattle.tables.specs.Lent.{Lent}
 use Rattle.analysis.specs.Analysis.{tableIn}
 use Rattle.checker.specs.Checker.{checked, checkedSays}
-use Rattle.totals.specs.Totals.{Prices, totals, totalsSay}
+use Rattle.costs.specs.Costs.{Prices}
+use Rattle.totals.specs.Totals.{totals, totalsSay}
 use Rattle.report.specs.Report.{zeroBuffers}
 use Rattle.demands.specs.Soundings.{Sounding, _reads_, after, loopPrices}
 use Rattle.demands.specs.Charts.{loopChart, straightChart, oneSetTwoWaysEmpty}

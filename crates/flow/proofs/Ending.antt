@@ -11,7 +11,8 @@ use native.Mathlib.Decide.{ℕ-discrete}
 use lib.ListN.{length, set}
 use Rattle.flow.proofs.Cells.{real}
 use Rattle.flow.proofs.Settling.{Fair, Due, metAt-still, due, put-on, visits-on, pass-fair, before-fair}
-use Rattle.flow.specs.Flow.{Cell, blank, holds, cellAt, Among, Flow, Table}
+use Rattle.lists.specs.Lists.{Among}
+use Rattle.flow.specs.Flow.{Cell, blank, holds, cellAt, Flow, Table}
 use Rattle.flow.specs.Pass.{Run, settled, spent, met, changes, metAt, put, putAll, visitWith, visit, visits, pass, before, afterPasses, settleFrom, settle}
 use Rattle.flow.specs.Laws.{Laws, Height}
 

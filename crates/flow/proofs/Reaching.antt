@@ -5,7 +5,8 @@ use Prim.Native.Nat.{ℕ}
 use Rattle.flow.proofs.Cells.{real}
 use Rattle.flow.proofs.Settling.{after-fair, settle-tight}
 use Rattle.flow.proofs.Ending.{settle-says}
-use Rattle.flow.specs.Flow.{Cell, blank, holds, cellAt, Among, Flow, Table}
+use Rattle.lists.specs.Lists.{Among}
+use Rattle.flow.specs.Flow.{Cell, blank, holds, cellAt, Flow, Table}
 use Rattle.flow.specs.Passing.{CellBelow, leaving, Marked, Passing}
 use Rattle.flow.specs.Pass.{settled, settle, afterPasses}
 use Rattle.flow.specs.Laws.{Laws}

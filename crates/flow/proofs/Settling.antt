@@ -8,7 +8,8 @@ use native.Mathlib.Omega.{arith}
 use native.Mathlib.Decide.{ℕ-discrete}
 use lib.ListN.{length, replicate, length-set, length-replicate}
 use lib.Seq.{ext-getD, getD-set-same, getD-set-other, set-getD}
-use Rattle.flow.specs.Flow.{Cell, blank, holds, cellAt, Among, Flow, Table}
+use Rattle.lists.specs.Lists.{Among}
+use Rattle.flow.specs.Flow.{Cell, blank, holds, cellAt, Flow, Table}
 use Rattle.flow.specs.Passing.{CellBelow, CellOk, leaving, Under, Passing, Tightest}
 use Rattle.flow.specs.Pass.{Run, settled, changes, metAt, put, putAll, visitWith, visit, visits, pass, before, afterPasses, settleFrom, settle}
 use Rattle.flow.specs.Laws.{Laws}

@@ -2,7 +2,7 @@
 use mathlib.Core.List.{List, [], _∷_}
 use mathlib.Core.Logic.{inl, inr}
 use mathlib.Core.Path.{refl}
-use Rattle.flow.specs.Flow.{Among}
+use Rattle.lists.specs.Lists.{Among}
 use Rattle.flow.specs.Walk.{inTurn}
 
 -- Two actions, and a relation of what they act on.

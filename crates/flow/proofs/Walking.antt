@@ -8,7 +8,8 @@ use Prim.Native.Nat.{ℕ, _<_}
 use native.Mathlib.Omega.{arith}
 use borrow.Author.Tests.{ne-eqb}
 use lib.Dec.{eqb}
-use Rattle.flow.specs.Flow.{Cell, blank, holds, cellAt, Among, Flow, Table}
+use Rattle.lists.specs.Lists.{Among}
+use Rattle.flow.specs.Flow.{Cell, blank, holds, cellAt, Flow, Table}
 use Rattle.flow.specs.Passing.{CellBelow, leaving, Passing}
 use Rattle.flow.specs.Walk.{Onward, visitsOf, inTurn, AtTouches, Machine, AtNodes}
 use Rattle.flow.proofs.Turns.{inTurn-keeps}
@@ -31,7 +32,7 @@ module _ (F : Flow) {E : Type 0} (M : Machine E) (touches : ℕ → List E) (tou
   -- What is asked: a step is the node's touches in turn, one touch keeps what is true, and a state that allows more says less.
   pub record Truthful : Type 0 where
     pub arrows-in : (n t : ℕ) → n < F .nodes → Among t (F .arrows n) → t < F .nodes
-    pub step-is : (n : ℕ) (a : F .State) → F .step n a ≡ inTurn touched (touches n) a
+    pub step-is : (n : ℕ) → n < F .nodes → (a : F .State) → F .step n a ≡ inTurn touched (touches n) a
     pub one-touch : (n : ℕ) → n < F .nodes → (e : E) → Among e (touches n) → (a : F .State) (c : M .Contents) → True a c → True (touched e a) (M .act e c)
     pub weaker : (a b : F .State) (c : M .Contents) → F .Below a b → True a c → True b c
 
@@ -49,7 +50,7 @@ module _ (F : Flow) {E : Type 0} (M : Machine E) (touches : ℕ → List E) (tou
     cell-leaves : (n : ℕ) → n < F .nodes → (x : Cell (F .State)) (c : M .Contents) → SaysOf x c → SaysOf (leaving F n x) (inTurn (M .act) (touches n) c)
     cell-leaves n h blank c says = absurd says
     cell-leaves n h (holds a) c says =
-        subst (λ (b : F .State). True b (inTurn (M .act) (touches n) c)) (sym (truthful .step-is n a))
+        subst (λ (b : F .State). True b (inTurn (M .act) (touches n) c)) (sym (truthful .step-is n h a))
         (inTurn-keeps touched (M .act) True (touches n) (truthful .one-touch n h) a c says)
 
     -- What a table says at a node that is one.

@@ -1,9 +1,7 @@
 -- A flow: nodes with arrows, a state on arrival at each node, a step at each node, and a meeting of states.
 -- Document 01, "Ages and equations", without its ages: nothing here knows of caches.
-use mathlib.Core.Path.{_≡_}
 use mathlib.Core.Bool.{Bool}
-use mathlib.Core.List.{List, [], _∷_}
-use mathlib.Core.Logic.{_⊎_}
+use mathlib.Core.List.{List}
 use Prim.Native.Nat.{ℕ}
 use lib.ListN.{getD}
 
@@ -15,11 +13,6 @@ pub data Cell (X : Type 0) : Type 0 where
 -- The cell of a node; past the end of a table a cell is blank.
 abbrev pub cellAt : {X : Type 0} → List (Cell X) → ℕ → Cell X
 cellAt table n = getD table n blank
-
--- It stands somewhere in the list.
-abbrev pub Among : {X : Type 0} → X → List X → Type 0
-Among t [] = ⊥
-Among t (x ∷ xs) = (t ≡ x) ⊎ Among t xs
 
 pub record Flow : Type 1 where
   -- a state

@@ -1,11 +1,12 @@
--- What the theory of passes asks of a flow. Nothing here is document 01's; ages keep these laws (`tables`).
+-- What the theory of passes asks of a flow. Nothing here is document 01's; ages keep these laws (`ages`).
 -- `Ok` is what a passing table has at each marked node, whoever made the table. `Real n` is what the states have, besides, that
 -- passes bring to node n: for a step that keeps the order only from such states, and for facts that are to be carried along. Where
 -- neither is needed, `Real n` is `Ok`.
 use mathlib.Core.Path.{_≡_}
 use mathlib.Core.Bool.{true, false}
 use Prim.Native.Nat.{ℕ, _≤_, _<_}
-use Rattle.flow.specs.Flow.{Among, Flow}
+use Rattle.lists.specs.Lists.{Among}
+use Rattle.flow.specs.Flow.{Flow}
 
 pub record Laws (F : Flow) : Type 1 where
   pub Real : ℕ → F .State → Type 0

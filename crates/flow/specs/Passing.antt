@@ -2,7 +2,8 @@
 use mathlib.Core.Path.{_≡_}
 use Prim.Native.Nat.{ℕ}
 use lib.ListN.{length}
-use Rattle.flow.specs.Flow.{Cell, blank, holds, cellAt, Among, Flow, Table}
+use Rattle.lists.specs.Lists.{Among}
+use Rattle.flow.specs.Flow.{Cell, blank, holds, cellAt, Flow, Table}
 
 abbrev pub Marked : {X : Type 0} → Cell X → Type 0
 Marked blank = ⊥

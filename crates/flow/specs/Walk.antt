@@ -1,11 +1,11 @@
 -- Walks, and what a machine does and pays along one. Document 01, "The plain cache" (a walk) and "Totals" (what the machine pays).
--- A node has a list of touches; a machine acts on its contents at each, and finds each touch a hit or a miss.
+-- A node has a list of touches; a machine begins with some contents, acts on them at each touch, and finds each a hit or a miss.
 use mathlib.Core.Path.{_≡_}
 use mathlib.Core.Bool.{Bool, cond}
 use mathlib.Core.List.{List, [], _∷_}
 use Prim.Native.Nat.{ℕ, _+_}
 use lib.Dec.{eqb}
-use Rattle.flow.specs.Flow.{Among}
+use Rattle.lists.specs.Lists.{Among}
 
 -- ---- walks
 
@@ -47,6 +47,8 @@ AtTouches stepS stepC P (e ∷ es) s c = P e s c × AtTouches stepS stepC P es (
 
 pub record Machine (E : Type 0) : Type 1 where
   pub Contents : Type 0
+  -- what a walk may begin with
+  pub Begins : Contents → Type 0
   pub act : E → Contents → Contents
   pub finds : E → Contents → Bool
 

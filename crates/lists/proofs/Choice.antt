@@ -128,7 +128,7 @@ tried k (suc left) test e i h = go (test k) refl i h (tried (suc k) left test)
         let later : firstFrom (suc k) left test ≡ k + suc left = (rw q at e) in
         rw z (rest (omega arith) i (omega arith))
 
-first-most : (k left : ℕ) (test : ℕ → Bool) → firstFrom k left test ≤ k + left
+pub first-most : (k left : ℕ) (test : ℕ → Bool) → firstFrom k left test ≤ k + left
 first-most k zero test = omega arith
 first-most k (suc left) test = go (test k) (first-most (suc k) left test)
   where

@@ -1,12 +1,13 @@
 -- Laws of a list written over the start of another, and of rows of one length joined.
 use mathlib.Core.List.{List, [], _∷_, _++_, map, append-assoc}
+use mathlib.Core.Logic.{inl, inr}
 use mathlib.Core.Path.{_≡_, refl, sym, ap, _∙_}
 use Prim.Native.Nat.{ℕ, zero, suc, _+_, _*_, _≤_, _<_}
 use native.Mathlib.Nat.{mul-le-mul-right, zero-mul}
 use native.Mathlib.Omega.{arith}
 use lib.ListN.{length, getD, set, take, drop, replicate, length-append, length-drop, replicate-append-replicate, List·getD-append}
 use lib.Seq.{drop-at, take-append-le, drop-append-le, take-append-add, drop-append-add, getD-append-add}
-use Rattle.lists.specs.Lists.{listOf, joined, written}
+use Rattle.lists.specs.Lists.{listOf, Among, joined, written}
 use Rattle.lists.specs.Loops.{patch}
 use Rattle.lists.proofs.Listed.{length-listOf}
 use Rattle.lists.proofs.Loops.{patch-laid}
@@ -35,6 +36,11 @@ map-set f (x ∷ cells) (suc t) c = ap (λ (l : List _). f x ∷ l) (map-set f c
 pub map-replicate : {C X : Type 0} (f : C → X) (n : ℕ) (c : C) → map f (replicate n c) ≡ replicate n (f c)
 map-replicate f zero c = refl
 map-replicate f (suc n) c = ap (λ (l : List _). f c ∷ l) (map-replicate f n c)
+
+pub among-map : {C X : Type 0} (f : C → X) (c : C) (cells : List C) → Among c cells → Among (f c) (map f cells)
+among-map f c [] i = absurd i
+among-map f c (x ∷ cells) (inl e) = inl (ap f e)
+among-map f c (x ∷ cells) (inr i) = inr (among-map f c cells i)
 
 -- ---- rows of `count` each, joined
 

@@ -5,3 +5,5 @@ pub mod Listed
 pub mod Loops
 pub mod Sums
 pub mod Joined
+pub mod Same
+pub mod Firsts

@@ -64,6 +64,13 @@ module _ {X : Type 0} where
   pub listOf-all : (l : List X) (d : X) → listOf (length l) (λ i. getD l i d) ≡ l
   listOf-all l d = listOf-take (length l) l d (omega arith) ∙ take-length l
 
+  -- A list of that length is what stands at its places, listed; and so are values that stand there.
+  pub listOf-is : (n : ℕ) (l : List X) (d : X) → length l ≡ n → l ≡ listOf n (λ i. getD l i d)
+  listOf-is n l d e = sym (listOf-all l d) ∙ ap (λ (k : ℕ). listOf k (λ i. getD l i d)) e
+
+  pub listOf-at : (n : ℕ) (f : ℕ → X) (l : List X) (d : X) → length l ≡ n → ((i : ℕ) → i < n → f i ≡ getD l i d) → listOf n f ≡ l
+  listOf-at n f l d e h = listOf-same n f (λ i. getD l i d) h ∙ sym (listOf-is n l d e)
+
   -- What holds of each element, and of what is stored, holds of each element after the store.
   pub set-all : (Q : X → Type 0) (l : List X) (t : ℕ) (v d : X) → Q v → ((n : ℕ) → Q (getD l n d)) → (n : ℕ) → Q (getD (set l t v) n d)
   set-all Q [] t v d q h n = h n

@@ -1,6 +1,10 @@
--- Lists by their elements, a list laid over the start of another, and a sum.
+-- Lists by their elements, whether two are the same, a list laid over the start of another, and a sum.
+use mathlib.Core.Bool.{Bool, true, false, _&&_}
 use mathlib.Core.List.{List, [], _∷_, _++_}
+use mathlib.Core.Logic.{_⊎_}
+use mathlib.Core.Path.{_≡_}
 use Prim.Native.Nat.{ℕ, zero, suc, _+_, _-_}
+use lib.Dec.{eqb}
 use lib.ListN.{length, drop, replicate}
 
 -- f k, f (k + 1), .. : n of them
@@ -11,6 +15,18 @@ listFrom k (suc n) f = f k ∷ listFrom (suc k) n f
 -- f 0, f 1, .. f (n - 1)
 abbrev pub listOf : {X : Type 0} → ℕ → (ℕ → X) → List X
 listOf n f = listFrom zero n f
+
+-- It stands somewhere in the list.
+abbrev pub Among : {X : Type 0} → X → List X → Type 0
+Among t [] = ⊥
+Among t (x ∷ xs) = (t ≡ x) ⊎ Among t xs
+
+-- Whether two lists of numbers are the same.
+abbrev pub sameRow : List ℕ → List ℕ → Bool
+sameRow [] [] = true
+sameRow [] (y ∷ ys) = false
+sameRow (x ∷ xs) [] = false
+sameRow (x ∷ xs) (y ∷ ys) = eqb x y && sameRow xs ys
 
 -- f 0 + f 1 + .. + f (n - 1)
 abbrev pub sumOf : ℕ → (ℕ → ℕ) → ℕ

@@ -1,4 +1,2 @@
-pub mod Planning
-pub mod Readied
 pub mod Visits
 pub mod Runs

@@ -1,43 +1,18 @@
 -- What passes over lent tables promise: the buffers hold, at each point, the table that `flow` defines.
-use Prim.Native.Nat.{ℕ, _+_, _*_, _≤_, _<_}
+use Prim.Native.Nat.{ℕ}
 use mathlib.Core.Path.{_≡_}
 use mathlib.Core.List.{List, [], _∷_}
-use lib.ListN.{length}
-use Rattle.chart.specs.declared.records.Node.{Node}
-use Rattle.chart.specs.Geometry.{mostBlocks}
-use Rattle.chart.specs.Chart.{Chart}
+use denote.Ref.{now}
+use Rattle.lists.specs.Slices.{Passed}
 use Rattle.cache.specs.Ages.{Ages}
-use Rattle.flow.specs.Pass.{Outcome, settled, spent, afterPasses, settle}
-use Rattle.tables.specs.AgesFlow.{agesFlow}
+use Rattle.flow.specs.Pass.{Outcome, settled, spent, before, afterPasses, settle}
+use Rattle.ages.specs.Plan.{Plan, planFlow}
+use Rattle.plan.specs.Listed.{planIn}
 use Rattle.tables.specs.Lent.{Lent, tableOf, over}
-use Rattle.rows.specs.declared.Row.{Row}
-use Rattle.rows.specs.Rows.{columnsBy, agesIn, rowOf, afterWork}
-use Rattle.tables.specs.Inner.{LentRun, loadedRow, metInto}
-use Rattle.passes.specs.declared.plans.Shape.{Shape}
-use Rattle.passes.specs.Plan.{workAt}
+use Rattle.tables.specs.Inner.{LentRun, metInto}
+use Rattle.tables.specs.Contract.{lentTable}
 use Rattle.passes.specs.declared.settling.Settling.{Settling}
 use Rattle.passes.specs.declared.settling.Settling.the-variants.{Settled, Spent}
-
--- The arrows that a node uses lead to nodes.
-pub record Aimed (nodes : ℕ) (node : Node) : Type 0 where
-  pub first-in : 0 < node .outs → node .first < nodes
-  pub second-in : 1 < node .outs → node .second < nodes
-
--- There is a key for each column, a work for node n, and its row.
-pub record Steps (shape : Shape) (keys works must may : List ℕ) (n : ℕ) : Type 0 where
-  pub few : shape .blocks ≤ mostBlocks
-  pub keyed : mostBlocks ≤ length keys
-  pub worked : n < length works
-  pub must-in : n * shape .blocks + shape .blocks ≤ length must
-  pub may-in : n * shape .blocks + shape .blocks ≤ length may
-
--- A row after a node's record, by the keys and the works that are kept.
-abbrev pub rowStepped : Shape → List ℕ → List ℕ → ℕ → Row → Row
-rowStepped shape keys works n row =
-    rowOf (afterWork (columnsBy keys mostBlocks (shape .ways)) (workAt (shape .blocks) works n) (agesIn row))
-
-abbrev pub rowAfter : Shape → List ℕ → List ℕ → List ℕ → List ℕ → ℕ → Row
-rowAfter shape keys works must may n = rowStepped shape keys works n (loadedRow (shape .blocks) n must may)
 
 -- Ages met into the rows of some nodes, one after the other.
 abbrev pub metIntoAll : ℕ → Ages → List ℕ → LentRun → LentRun
@@ -45,19 +20,30 @@ metIntoAll count a [] run = run
 metIntoAll count a (t ∷ ts) run = metIntoAll count a ts (metInto count t a run)
 
 -- The buffers hold a table: they are its layout.
-abbrev pub Lies : Chart → Lent → Type 0
-Lies chart lent = lent ≡ over chart (tableOf chart lent) lent
+abbrev pub Lies : Plan → Lent → Type 0
+Lies plan lent = lent ≡ over plan (tableOf plan lent) lent
+
+-- The buffers hold the table before the first pass.
+abbrev pub Begun : Plan → Lent → Type 0
+Begun plan lent = lent ≡ over plan (before (planFlow plan)) lent
+
+-- The same of slices, as a `requires` names them.
+abbrev pub LiesIn : Passed → Passed → Passed → Passed → Passed → Type 0
+LiesIn columns plan must may marks = Lies (planIn (now columns) (now plan)) (lentTable must may marks)
+
+abbrev pub BegunIn : Passed → Passed → Passed → Passed → Passed → Type 0
+BegunIn columns plan must may marks = Begun (planIn (now columns) (now plan)) (lentTable must may marks)
 
 -- How many passes have been made, and what that tells of settling.
 abbrev pub passesMade : ℕ → Settling → ℕ
 passesMade allowance (Settled passes) = passes
 passesMade allowance Spent = allowance
 
-abbrev pub outcomeOf : Chart → Settling → Outcome Ages
-outcomeOf chart (Settled passes) = settled passes (afterPasses (agesFlow chart) passes)
-outcomeOf chart Spent = spent
+abbrev pub outcomeOf : Plan → Settling → Outcome Ages
+outcomeOf plan (Settled passes) = settled passes (afterPasses (planFlow plan) passes)
+outcomeOf plan Spent = spent
 
 -- What settling answers and leaves: the outcome that is defined, and the table after as many passes as were made.
-pub record SettledIn (chart : Chart) (allowance : ℕ) (lent : Lent) (answer : Settling) (left : Lent) : Type 0 where
-  pub answered : outcomeOf chart answer ≡ settle (agesFlow chart) allowance
-  pub table : left ≡ over chart (afterPasses (agesFlow chart) (passesMade allowance answer)) lent
+pub record SettledIn (plan : Plan) (allowance : ℕ) (lent : Lent) (answer : Settling) (left : Lent) : Type 0 where
+  pub answered : outcomeOf plan answer ≡ settle (planFlow plan) allowance
+  pub table : left ≡ over plan (afterPasses (planFlow plan) (passesMade allowance answer)) lent

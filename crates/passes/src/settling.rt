@@ -1,13 +1,12 @@
 // A pass over all nodes, and passes until one changes nothing.
 ghost use mathlib.Core.Path.{_≡_};
-ghost use Rattle.chart.specs.Chart.{chartIn};
-ghost use Rattle.flow.specs.Pass.{pass as defined, before};
-ghost use Rattle.tables.specs.AgesFlow.{agesFlow};
-ghost use Rattle.tables.specs.Lent.{Lent, tableOf, over};
-ghost use Rattle.tables.specs.Inner.{LentRun, Roomy, overRun};
-ghost use Rattle.passes.specs.Plan.{Ready};
-ghost use Rattle.passes.specs.Inner.{Lies, SettledIn};
-use crate::plans::Shape;
+ghost use Rattle.flow.specs.Pass.{pass as defined};
+ghost use Rattle.ages.specs.Plan.{planFlow};
+ghost use Rattle.plan.specs.Listed.{DrawnIn, planAt};
+ghost use Rattle.tables.specs.Lent.{tableOf};
+ghost use Rattle.tables.specs.Inner.{overRun};
+ghost use Rattle.tables.specs.Contract.{entryTable, exitTable, exitRun, RoomFor};
+ghost use Rattle.passes.specs.Inner.{LiesIn, BegunIn, SettledIn};
 use crate::visiting::visit_node;
 
 // Settled after so many passes, or not within the allowance.
@@ -17,47 +16,37 @@ pub enum Settling {
 }
 
 // One pass: every node in ascending order. Whether anything changed.
-pub fn pass(
-    shape: Shape,
-    chart: &[u8],
-    keys: &[u8],
-    works: &[u8],
-    must: &mut [u8],
-    may: &mut [u8],
-    marks: &mut [u8],
-) -> bool
-    requires { ⌜ Ready (now chart) (now keys) (now works) shape ⌝ }
-    requires { ⌜ Roomy (shape .nodes) (shape .blocks) (now must) (now may) (now marks) ⌝ }
-    requires { ⌜ Lies (chartIn (now chart)) (record { must = now must; may = now may; marks = now marks }) ⌝ }
-    ensures { λ r. ⌜ record { lent = record { must = now (must .exit); may = now (may .exit); marks = now (marks .exit) }; changed = r } ≡ overRun (chartIn (now (chart .entry))) (record { must = now (must .entry); may = now (may .entry); marks = now (marks .entry) }) (defined (agesFlow (chartIn (now (chart .entry)))) (tableOf (chartIn (now (chart .entry))) (record { must = now (must .entry); may = now (may .entry); marks = now (marks .entry) }))) ⌝ }
+pub fn pass(columns: &[u8], plan: &[u16], must: &mut [u8], may: &mut [u8], marks: &mut [u8]) -> bool
+    requires { ⌜ DrawnIn columns plan ⌝ }
+    requires { ⌜ RoomFor plan must may marks ⌝ }
+    requires { ⌜ LiesIn columns plan must may marks ⌝ }
+    ensures { λ r. ⌜ exitRun must may marks r ≡ overRun (planAt columns plan) (entryTable must may marks) (defined (planFlow (planAt columns plan)) (tableOf (planAt columns plan) (entryTable must may marks))) ⌝ }
 {
-    let nodes = shape.nodes;
+    let nodes = plan::nodes_in(plan);
     let mut changed = false;
     for n in 0..nodes {
-        changed = visit_node(shape, chart, keys, works, must, may, marks, n, changed);
+        changed = visit_node(columns, plan, must, may, marks, n, changed);
     }
     changed
 }
 
 // Passes until one changes nothing, at most `allowance` of them.
 pub fn settle(
-    shape: Shape,
-    chart: &[u8],
-    keys: &[u8],
-    works: &[u8],
+    columns: &[u8],
+    plan: &[u16],
     must: &mut [u8],
     may: &mut [u8],
     marks: &mut [u8],
     allowance: usize,
 ) -> Settling
-    requires { ⌜ Ready (now chart) (now keys) (now works) shape ⌝ }
-    requires { ⌜ Roomy (shape .nodes) (shape .blocks) (now must) (now may) (now marks) ⌝ }
-    requires { ⌜ record { must = now must; may = now may; marks = now marks } ≡ over (chartIn (now chart)) (before (agesFlow (chartIn (now chart)))) (record { must = now must; may = now may; marks = now marks }) ⌝ }
-    ensures { λ r. ⌜ SettledIn (chartIn (now (chart .entry))) allowance (record { must = now (must .entry); may = now (may .entry); marks = now (marks .entry) }) r (record { must = now (must .exit); may = now (may .exit); marks = now (marks .exit) }) ⌝ }
+    requires { ⌜ DrawnIn columns plan ⌝ }
+    requires { ⌜ RoomFor plan must may marks ⌝ }
+    requires { ⌜ BegunIn columns plan must may marks ⌝ }
+    ensures { λ r. ⌜ SettledIn (planAt columns plan) allowance (entryTable must may marks) r (exitTable must may marks) ⌝ }
 {
     let mut made = 0;
     while made < allowance {
-        let changed = pass(shape, chart, keys, works, must, may, marks);
+        let changed = pass(columns, plan, must, may, marks);
         made += 1;
         if !changed {
             return Settling::Settled(made);

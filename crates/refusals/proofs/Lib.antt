@@ -1,1 +1,1 @@
-pub mod Values
+pub mod Numbers

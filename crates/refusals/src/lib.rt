@@ -1,6 +1,6 @@
 // What the tool answers when it says no.
 ghost use mathlib.Core.Path.{_≡_};
-ghost use Rattle.refusals.specs.Refusals.{numberOf, placeOf, passesOf, blocksOf};
+ghost use Rattle.refusals.specs.Refusals.{numberOf, placeOf};
 
 // Document 01's refusals, in its order; those that name a node carry it.
 pub enum Refusal {
@@ -15,7 +15,7 @@ pub enum Refusal {
     BrokenRecord(usize),
     TooManyBlocks(usize),
     ShortBuffer,
-    Unsettled { allowance: usize, blocks: usize },
+    Unsettled,
     NotPassing,
     BoundsLength,
     Costs,
@@ -40,10 +40,7 @@ impl Refusal {
             Refusal::BrokenRecord(_) => 9,
             Refusal::TooManyBlocks(_) => 10,
             Refusal::ShortBuffer => 11,
-            Refusal::Unsettled {
-                allowance: _,
-                blocks: _,
-            } => 12,
+            Refusal::Unsettled => 12,
             Refusal::NotPassing => 13,
             Refusal::BoundsLength => 14,
             Refusal::Costs => 15,
@@ -68,43 +65,12 @@ impl Refusal {
             Refusal::BrokenRecord(node) => node,
             Refusal::TooManyBlocks(node) => node,
             Refusal::ShortBuffer => 0,
-            Refusal::Unsettled {
-                allowance: _,
-                blocks: _,
-            } => 0,
+            Refusal::Unsettled => 0,
             Refusal::NotPassing => 0,
             Refusal::BoundsLength => 0,
             Refusal::Costs => 0,
             Refusal::FloorAboveCeiling(node) => node,
             Refusal::FloorAtUnmarked(node) => node,
         }
-    }
-
-    // The passes allowed, where they were not enough, or 0.
-    pub fn passes(self) -> usize
-        ensures { λ r. ⌜ r ≡ passesOf self ⌝ }
-    {
-        let Refusal::Unsettled {
-            allowance: allowed,
-            blocks: _,
-        } = self
-        else {
-            return 0;
-        };
-        allowed
-    }
-
-    // The number of blocks, where the passes allowed were not enough, or 0.
-    pub fn blocks(self) -> usize
-        ensures { λ r. ⌜ r ≡ blocksOf self ⌝ }
-    {
-        let Refusal::Unsettled {
-            allowance: _,
-            blocks: count,
-        } = self
-        else {
-            return 0;
-        };
-        count
     }
 }

@@ -10,9 +10,9 @@ use Rattle.lists.specs.Lists.{listOf, joined}
 use Rattle.lists.proofs.Listed.{listOf-more}
 use Rattle.refusals.specs.declared.Refusal.{Refusal}
 use Rattle.refusals.specs.Refusals.{numberOf, placeOf}
-use Rattle.analysis.specs.declared.Analysed.the-variants.{Settled, Refused}
+use Rattle.analysis.specs.declared.Analysed.the-variants.{Settled}
 use Rattle.report.specs.Text.{lineFeed, space, nodesWord, blocksWord, passesWord, noneWord, refusedWord, atWord, decimal}
-use Rattle.report.specs.Report.{classWord, nodeLine, reportOf}
+use Rattle.report.specs.Report.{classWord, nodeLine, reportOf, refusalLine}
 use Rattle.report.specs.Written.{mostDigits, mostLetters, mostFirst, mostNode, mostRefused, Put}
 use Rattle.report.proofs.Putting.{put-then, put-wide, put-same}
 
@@ -49,7 +49,7 @@ refused-parts r s a x y l = simp append-assoc
 
 pub refused-put : {at mid last next : ℕ} {before between later after : List ℕ} (refusal : Refusal) (number place : ℕ) → number ≡ numberOf refusal → place ≡ placeOf refusal
     → Put (8 + mostDigits) before at (refusedWord ++ space ++ decimal number) between mid → Put (4 + mostDigits) between mid (space ++ atWord ++ space ++ decimal place) later last → Put 1 later last lineFeed after next
-    → Put mostRefused before at (reportOf 0 [] (Refused refusal)) after next
+    → Put mostRefused before at (refusalLine refusal) after next
 refused-put refusal number place d e p q s =
     put-same (put-then (put-then p q) s)
     (refused-parts refusedWord space atWord (decimal number) (decimal place) lineFeed

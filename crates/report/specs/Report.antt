@@ -5,23 +5,20 @@ use lib.ListN.{getD, replicate, take}
 use lib.Dec.{eqb}
 use Rattle.lists.specs.Choice.{_⇒_, firstRule}
 use Rattle.lists.specs.Lists.{listOf, joined}
-use Rattle.chart.specs.Geometry.{mostNodes, mostBlocks}
+use Rattle.chart.specs.Geometry.{mostNodes, mostBlocks, longestChart, allPasses}
 use Rattle.chart.specs.Header.{headerIn}
-use Rattle.chart.specs.Layout.{chartLength}
+use Rattle.refusals.specs.declared.Refusal.{Refusal}
+use Rattle.refusals.specs.declared.Refusal.the-variants as refusals
 use Rattle.refusals.specs.Refusals.{numberOf, placeOf}
-use Rattle.tables.specs.AgesFlow.{allPasses}
 use Rattle.analysis.specs.declared.Analysed.{Analysed}
-use Rattle.analysis.specs.declared.Analysed.the-variants.{Settled, Refused}
+use Rattle.analysis.specs.declared.Analysed.the-variants.{Settled, Unsettled, Refused}
 use Rattle.analysis.specs.Analysis.{Buffers, Left, analysed}
-use Rattle.analysis.specs.Class.{unreached, hit, miss, unsure}
+use Rattle.classes.specs.Class.{unreached, hit, miss, unsure}
 use Rattle.report.specs.Text.{lineFeed, space, nodesWord, blocksWord, passesWord, unreachedWord, hitWord, missWord, unsureWord, noneWord, refusedWord, atWord, decimal}
 
 -- "a chart of up to 2,056 bytes .. a longer input gets the answer for its first 2,057 bytes"
-abbrev pub longest : ℕ
-longest = chartLength mostNodes
-
 abbrev pub taken : List ℕ → List ℕ
-taken input = take (longest + 1) input
+taken input = take (longestChart + 1) input
 
 abbrev pub classWord : ℕ → List ℕ
 classWord class =
@@ -37,14 +34,19 @@ classWord class =
 abbrev pub nodeLine : List ℕ → ℕ → List ℕ
 nodeLine classes n = decimal n ++ space ++ classWord (getD classes n 0) ++ lineFeed
 
--- "nodes 3 blocks 1 passes 2", then a line for each node; or "A refusal is one line, as `refused 9 at 2`."
+-- "A refusal is one line, as `refused 9 at 2`."
+abbrev pub refusalLine : Refusal → List ℕ
+refusalLine refusal =
+    refusedWord ++ space ++ decimal (numberOf refusal) ++ space ++ atWord ++ space ++ decimal (placeOf refusal) ++ lineFeed
+
+-- "nodes 3 blocks 1 passes 2", then a line for each node; or a refusal's line.
 abbrev pub reportOf : ℕ → List ℕ → Analysed → List ℕ
 reportOf nodes classes (Settled passes blocks) =
     nodesWord ++ space ++ decimal nodes ++ space ++ blocksWord ++ space ++ decimal blocks ++ space
     ++ passesWord ++ space ++ decimal passes ++ lineFeed
     ++ joined (listOf nodes (nodeLine classes))
-reportOf nodes classes (Refused refusal) =
-    refusedWord ++ space ++ decimal (numberOf refusal) ++ space ++ atWord ++ space ++ decimal (placeOf refusal) ++ lineFeed
+reportOf nodes classes (Unsettled allowance blocks) = refusalLine refusals.Unsettled
+reportOf nodes classes (Refused refusal) = refusalLine refusal
 
 -- Buffers of zeros for a chart of so many nodes and blocks.
 abbrev pub zeroBuffers : ℕ → ℕ → Buffers

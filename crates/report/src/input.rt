@@ -1,9 +1,8 @@
 // The report of any input.
 ghost use mathlib.Core.Path.{_≡_};
 ghost use Prim.Native.Nat.{_≤_};
-ghost use Rattle.chart.specs.Geometry.{mostNodes, mostBlocks};
 ghost use Rattle.chart.specs.Header.{headerRead};
-ghost use Rattle.tables.specs.AgesFlow.{allPasses};
+ghost use Rattle.chart.specs.Geometry.{mostNodes, mostBlocks, allPasses};
 ghost use Rattle.analysis.specs.Analysis.{analysed};
 ghost use Rattle.report.specs.Report.{zeroBuffers, reportLeft, report as defined};
 ghost use Rattle.report.specs.Written.{mostText, textOf, nodesRead};
@@ -13,14 +12,7 @@ use chart::Geometry;
 use chart::HeaderRead;
 
 // The bytes of the longest chart, and one more, which tells a longer input from it.
-pub const TAKEN: usize = 8 + 8 * Geometry::NODES + 1;
-
-// The ages of the largest chart.
-const AGES: usize = Geometry::NODES * Geometry::BLOCKS;
-
-// The passes that are enough for every chart.
-pub const PASSES: usize = Geometry::NODES * (1 + 2 * Geometry::BLOCKS * Geometry::WAYS as usize)
-    + 1;
+pub const TAKEN: usize = Geometry::LONGEST + 1;
 
 // The number of nodes in the header of any bytes, or 0 where it is refused.
 fn nodes_of(chart: &[u8]) -> usize
@@ -39,13 +31,13 @@ fn report_bytes(chart: &[u8]) -> Text
     ensures { λ r. ⌜ r .size ≤ mostText ⌝ }
 {
     let mut blocks = [0u32; Geometry::BLOCKS];
-    let mut must = [0u8; AGES];
-    let mut may = [0u8; AGES];
+    let mut must = [0u8; Geometry::AGES];
+    let mut may = [0u8; Geometry::AGES];
     let mut marks = [0u8; Geometry::NODES];
     let mut classes = [0u8; Geometry::NODES];
     let answer = analysis::analyse(
         chart,
-        PASSES,
+        Geometry::PASSES,
         &mut blocks,
         &mut must,
         &mut may,

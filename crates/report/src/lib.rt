@@ -4,7 +4,6 @@ mod lines;
 mod puts;
 mod text;
 
-pub use input::PASSES;
 pub use input::TAKEN;
 pub use input::report;
 pub use text::Text;

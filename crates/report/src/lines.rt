@@ -1,10 +1,9 @@
 // The lines of a report, put into a lent buffer from a place on; each function answers the place behind what it put.
-ghost use mathlib.Core.List.{[]};
 ghost use Prim.Native.Nat.{_+_, _*_, _≤_, _<_};
 ghost use lib.ListN.{length};
 ghost use Rattle.lists.specs.Lists.{listOf, joined};
-ghost use Rattle.analysis.specs.declared.Analysed.the-variants.{Settled, Refused};
-ghost use Rattle.report.specs.Report.{classWord, nodeLine, reportOf};
+ghost use Rattle.analysis.specs.declared.Analysed.the-variants.{Settled};
+ghost use Rattle.report.specs.Report.{classWord, nodeLine, reportOf, refusalLine};
 ghost use Rattle.report.specs.Written.{mostLetters, mostFirst, mostNode, mostRefused, Put};
 use crate::puts::put_byte;
 use crate::puts::put_decimal;
@@ -73,7 +72,7 @@ pub(crate) fn put_settled(
 // Puts the whole report of a refusal, for any nodes and classes: one line, as `refused 9 at 2`.
 pub(crate) fn put_refused(text: &mut [u8], refusal: Refusal) -> usize
     requires { ⌜ mostRefused ≤ length (now text) ⌝ }
-    ensures { λ r. ⌜ Put mostRefused (now (text .entry)) 0 (reportOf 0 [] (Refused refusal)) (now (text .exit)) r ⌝ }
+    ensures { λ r. ⌜ Put mostRefused (now (text .entry)) 0 (refusalLine refusal) (now (text .exit)) r ⌝ }
 {
     let mut next = put_named(text, 0, b"refused ", refusal.number());
     next = put_named(text, next, b" at ", refusal.place() as u64);

@@ -9,6 +9,7 @@ use crate::lines::put_refused;
 use crate::lines::put_settled;
 use analysis::Analysed;
 use chart::Geometry;
+use refusals::Refusal;
 
 // The text stands at the start of the array, zeros after it.
 pub struct Text {
@@ -46,6 +47,10 @@ pub(crate) fn written(nodes: usize, classes: &[u8], answer: Analysed) -> Text
             passes,
             blocks,
         ),
+        Analysed::Unsettled {
+            allowance: _,
+            blocks: _,
+        } => put_refused(&mut bytes, Refusal::Unsettled),
         Analysed::Refused(refusal) => put_refused(&mut bytes, refusal),
     };
     Text {

@@ -1,6 +1,6 @@
 -- The ages of another block of the touched block's set, case by case.
 use mathlib.Core.Path.{_≡_}
-use Prim.Native.Nat.{ℕ, _+_, _≤_, _<_}
+use Prim.Native.Nat.{ℕ, suc, _+_, _≤_, _<_, min}
 use native.Mathlib.Omega.{arith}
 use borrow.Author.Tests.{lt-ltb, le-ltb, le-leb, lt-leb}
 use Rattle.cache.specs.Ages.{mustGrown, mayGrown}
@@ -14,13 +14,9 @@ module _ (h age : ℕ) where
   unfolding mustGrown
   must-stays le = rw (le-ltb age h le)
 
-  pub may-grows : (limit : ℕ) → age ≤ h → age < limit → mayGrown limit h age ≡ age + 1
+  pub may-grows : (limit : ℕ) → age ≤ h → limit ≤ 255 → mayGrown limit h age ≡ min limit (min 255 (suc age))
   unfolding mayGrown
-  may-grows limit le lt = rw (le-leb age h le) (omega arith)
-
-  pub may-full : (limit : ℕ) → age ≤ h → limit ≤ age → mayGrown limit h age ≡ limit
-  unfolding mayGrown
-  may-full limit le full = rw (le-leb age h le) (omega arith)
+  may-grows limit le byte = rw (le-leb age h le) (omega arith)
 
   pub may-stays : (limit : ℕ) → h < age → mayGrown limit h age ≡ age
   unfolding mayGrown

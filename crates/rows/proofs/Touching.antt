@@ -10,10 +10,10 @@ use Rattle.lists.specs.Lists.{listOf}
 use Rattle.lists.specs.Loops.{patch}
 use Rattle.lists.proofs.Loops.{patch-read, patch-turn0, patch-whole, patch-but}
 
--- `grow h a`: the age of another block of the set, where the touched block's is h.
-module _ (keys : List ℕ) (m : ℕ) (grow : ℕ → ℕ → ℕ) (row : List ℕ) where
+-- `grow j h a`: the age in column j, where that is of the set, and the touched block's is h.
+module _ (keys : List ℕ) (m : ℕ) (grow : ℕ → ℕ → ℕ → ℕ) (row : List ℕ) where
   abbrev pub grows : ℕ → ℕ → ℕ
-  grows j age = cond (eqb (getD keys j 0) (getD keys m 0)) (grow (getD row m 0) age) age
+  grows j age = cond (eqb (getD keys j 0) (getD keys m 0)) (grow j (getD row m 0) age) age
 
   abbrev pub grown : ℕ → ℕ
   grown j = grows j (getD row j 0)

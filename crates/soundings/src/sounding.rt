@@ -5,6 +5,7 @@ ghost use Rattle.checker.specs.declared.Checked.the-variants.{Passes};
 ghost use Rattle.totals.specs.declared.Totals.the-variants.{Between};
 ghost use Rattle.demands.specs.Charts.{loopChart};
 ghost use Rattle.demands.specs.Soundings.{after};
+use chart::Geometry;
 use checker::Checked;
 use totals::Totals;
 
@@ -37,7 +38,7 @@ fn loop_table() -> Table
     let mut classes = [0u8; 3];
     analysis::analyse(
         &chart,
-        report::PASSES,
+        Geometry::PASSES,
         &mut blocks,
         &mut must,
         &mut may,

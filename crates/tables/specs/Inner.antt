@@ -6,12 +6,15 @@ use mathlib.Core.List.{List}
 use lib.ListN.{getD, set, length, replicate}
 use lib.Dec.{ltb, eqb}
 use Rattle.lists.specs.Lists.{listOf, written}
-use Rattle.lists.specs.Loops.{patch, any}
+use Rattle.lists.specs.Loops.{patch}
 use Rattle.chart.specs.Geometry.{mostBlocks}
+use Rattle.plan.specs.declared.Work.{Work}
 use Rattle.rows.specs.declared.Row.{Row}
+use Rattle.rows.specs.Rows.{columnsBy, agesIn, asRow, afterWork}
 use Rattle.cache.specs.Ages.{Ages, ageOf}
 use Rattle.flow.specs.Pass.{Run}
-use Rattle.chart.specs.Chart.{Chart}
+use Rattle.layout.specs.Joins.{joinedRow, rowMoves}
+use Rattle.ages.specs.Plan.{Plan}
 use Rattle.tables.specs.Lent.{Lent, tableOf, over}
 
 -- A lent table, and whether anything has changed.
@@ -20,12 +23,12 @@ pub record LentRun : Type 0 where
   pub changed : Bool
 
 -- A run over a table, as it is laid over what was lent.
-abbrev pub overRun : Chart → Lent → Run Ages → LentRun
-overRun chart lent run = record { lent = over chart (run .table) lent; changed = run .changed }
+abbrev pub overRun : Plan → Lent → Run Ages → LentRun
+overRun plan lent run = record { lent = over plan (run .table) lent; changed = run .changed }
 
 -- The run over the table that is lent.
-abbrev pub runIn : Chart → Lent → Bool → Run Ages
-runIn chart lent changed = record { table = tableOf chart lent; changed = changed }
+abbrev pub runIn : Plan → Lent → Bool → Run Ages
+runIn plan lent changed = record { table = tableOf plan lent; changed = changed }
 
 -- There is room for so many rows of so many ages, and for their marks.
 pub record Roomy (nodes count : ℕ) (must may marks : List ℕ) : Type 0 where
@@ -42,19 +45,24 @@ loaded base buffer =
 abbrev pub loadedRow : ℕ → ℕ → List ℕ → List ℕ → Row
 loadedRow count n must may = record { must = loaded (n * count) must; may = loaded (n * count) may }
 
--- Larger ages into a row that begins at base, and whether any is larger than what stands there.
-abbrev pub larger : ℕ → ℕ → (ℕ → ℕ) → List ℕ → List ℕ
-larger base count age l = patch l base count (λ j. max (getD l (base + j) 0) (age j))
+-- Row n, and what stands in the lists of a plan for each column, can be loaded.
+pub record Loads (columns must may : List ℕ) (count n : ℕ) : Type 0 where
+  pub few : count ≤ mostBlocks
+  pub columns-long : 3 * mostBlocks ≤ length columns
+  pub must-in : n * count + count ≤ length must
+  pub may-in : n * count + count ≤ length may
 
-abbrev pub anyLarger : Bool → ℕ → ℕ → (ℕ → ℕ) → List ℕ → Bool
-anyLarger changed base count age l = any changed count (λ j. ltb (getD l (base + j) 0) (age j))
+-- Row n after a record, by value.
+abbrev pub rowAfter : List ℕ → List ℕ → List ℕ → ℕ → ℕ → Work → Row
+rowAfter columns must may count n work =
+    asRow (afterWork (columnsBy columns mostBlocks) work (agesIn (loadedRow count n must may)))
 
--- The same with smaller.
-abbrev pub smaller : ℕ → ℕ → (ℕ → ℕ) → List ℕ → List ℕ
-smaller base count age l = patch l base count (λ j. min (getD l (base + j) 0) (age j))
+-- A must age moves where the new one is larger, a may age where it is smaller.
+abbrev pub grows : ℕ → ℕ → Bool
+grows old new = ltb old new
 
-abbrev pub anySmaller : Bool → ℕ → ℕ → (ℕ → ℕ) → List ℕ → Bool
-anySmaller changed base count age l = any changed count (λ j. ltb (age j) (getD l (base + j) 0))
+abbrev pub falls : ℕ → ℕ → Bool
+falls old new = ltb new old
 
 -- Ages met into row n: an unmarked row takes them as they are.
 unfoldable pub takenInto : ℕ → ℕ → Ages → Lent → LentRun
@@ -68,15 +76,20 @@ takenInto count n a lent =
       changed = true;
     }
 
+-- Whether anything had changed, a must age grows, or a may age falls.
+abbrev pub agesMove : ℕ → ℕ → Ages → LentRun → Bool
+agesMove count n a run =
+    rowMoves falls (rowMoves grows (run .changed) (n * count) count (ageOf (a .must)) (run .lent .must)) (n * count) count (ageOf (a .may)) (run .lent .may)
+
 unfoldable pub joinedInto : ℕ → ℕ → Ages → LentRun → LentRun
 joinedInto count n a run =
     record {
       lent = record {
-        must = larger (n * count) count (ageOf (a .must)) (run .lent .must);
-        may = smaller (n * count) count (ageOf (a .may)) (run .lent .may);
+        must = joinedRow max (n * count) count (ageOf (a .must)) (run .lent .must);
+        may = joinedRow min (n * count) count (ageOf (a .may)) (run .lent .may);
         marks = run .lent .marks;
       };
-      changed = anySmaller (anyLarger (run .changed) (n * count) count (ageOf (a .must)) (run .lent .must)) (n * count) count (ageOf (a .may)) (run .lent .may);
+      changed = agesMove count n a run;
     }
 
 abbrev pub metInto : ℕ → ℕ → Ages → LentRun → LentRun

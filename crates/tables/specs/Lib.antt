@@ -1,3 +1,3 @@
-pub mod AgesFlow
 pub mod Lent
 pub mod Inner
+pub mod Contract

@@ -1,27 +1,19 @@
-// Tables of ages: the age at the start; in lent buffers, a row loaded, filled, or met into what is there.
+// Tables of ages in lent buffers: a row loaded, filled, or met into what is there.
+mod stepped;
+
 ghost use mathlib.Core.Path.{_≡_};
 ghost use Prim.Native.Nat.{_+_, _*_, _≤_, _<_, max, min};
-ghost use mathlib.Core.Bool.{cond};
-ghost use lib.ListN.{length, getD};
+ghost use lib.ListN.{length};
 ghost use Rattle.lists.specs.Loops.{patch};
 ghost use Rattle.chart.specs.Geometry.{mostBlocks};
-ghost use Rattle.cache.specs.Ages.{Ages, ageOf};
-ghost use Rattle.tables.specs.AgesFlow.{isEmpty};
-ghost use Rattle.tables.specs.Lent.{Lent};
-ghost use Rattle.tables.specs.Inner.{LentRun, Roomy, loaded, loadedRow, larger, anyLarger, smaller, anySmaller, metInto};
+ghost use Rattle.cache.specs.Ages.{ageOf};
+ghost use Rattle.layout.specs.Joins.{RowJoined};
+ghost use Rattle.tables.specs.Inner.{loaded, loadedRow, grows, falls, metInto};
+ghost use Rattle.tables.specs.Contract.{entryAges, entryRun, exitRun};
 use chart::Geometry;
-use chart::Start;
 use rows::Row;
-
-// The may age that every block has at the start.
-pub fn start_age(start: Start, ways: u8) -> u8
-    ensures { λ r. ⌜ r ≡ cond (isEmpty start) ways 0 ⌝ }
-{
-    match start {
-        Start::Unknown => 0,
-        Start::Empty => ways,
-    }
-}
+use rows::smaller_of;
+pub use stepped::row_after;
 
 // What stands from a place on, as much as a row holds and there is, zeros after it.
 fn load(buffer: &[u8], base: usize) -> [u8; Geometry::BLOCKS]
@@ -58,7 +50,7 @@ fn load_whole(must: &[u8], may: &[u8], base: usize) -> Row
 }
 
 // Row n of a table of so many blocks, by value.
-pub fn load_row(must: &[u8], may: &[u8], blocks: usize, n: usize) -> Row
+fn load_row(must: &[u8], may: &[u8], blocks: usize, n: usize) -> Row
     requires { ⌜ (n * blocks ≤ length (now must)) × (n * blocks ≤ length (now may)) ⌝ }
     ensures { λ r. ⌜ r ≡ loadedRow blocks n (now (must .entry)) (now (may .entry)) ⌝ }
 {
@@ -102,16 +94,10 @@ fn larger_of(a: u8, b: u8) -> u8
     if a < b { b } else { a }
 }
 
-fn smaller_of(a: u8, b: u8) -> u8
-    ensures { λ r. ⌜ r ≡ min a b ⌝ }
-{
-    if b < a { b } else { a }
-}
-
 // The larger of each age and what stands there; `changed`, or whether anything grew.
 fn put_larger(buffer: &mut [u8], base: usize, blocks: usize, ages: &[u8], changed: bool) -> bool
     requires { ⌜ (blocks ≤ length (now ages)) × (base + blocks ≤ length (now buffer)) ⌝ }
-    ensures { λ r. ⌜ (now (buffer .exit) ≡ larger base blocks (ageOf (now (ages .entry))) (now (buffer .entry))) × (r ≡ anyLarger changed base blocks (ageOf (now (ages .entry))) (now (buffer .entry))) ⌝ }
+    ensures { λ r. ⌜ RowJoined max grows base blocks (ageOf (now (ages .entry))) changed (now (buffer .entry)) (now (buffer .exit)) r ⌝ }
 {
     let mut any = changed;
     for j in 0..blocks {
@@ -126,7 +112,7 @@ fn put_larger(buffer: &mut [u8], base: usize, blocks: usize, ages: &[u8], change
 // The smaller of each age and what stands there; `changed`, or whether anything fell.
 fn put_smaller(buffer: &mut [u8], base: usize, blocks: usize, ages: &[u8], changed: bool) -> bool
     requires { ⌜ (blocks ≤ length (now ages)) × (base + blocks ≤ length (now buffer)) ⌝ }
-    ensures { λ r. ⌜ (now (buffer .exit) ≡ smaller base blocks (ageOf (now (ages .entry))) (now (buffer .entry))) × (r ≡ anySmaller changed base blocks (ageOf (now (ages .entry))) (now (buffer .entry))) ⌝ }
+    ensures { λ r. ⌜ RowJoined min falls base blocks (ageOf (now (ages .entry))) changed (now (buffer .entry)) (now (buffer .exit)) r ⌝ }
 {
     let mut any = changed;
     for j in 0..blocks {
@@ -152,7 +138,7 @@ pub fn meet_row(
 ) -> bool
     requires { ⌜ (blocks ≤ length (now musts)) × ((blocks ≤ length (now mays)) × (n < length (now marks))) ⌝ }
     requires { ⌜ (n * blocks + blocks ≤ length (now must)) × (n * blocks + blocks ≤ length (now may)) ⌝ }
-    ensures { λ r. ⌜ record { lent = record { must = now (must .exit); may = now (may .exit); marks = now (marks .exit) }; changed = r } ≡ metInto blocks n (record { must = now (musts .entry); may = now (mays .entry) }) (record { lent = record { must = now (must .entry); may = now (may .entry); marks = now (marks .entry) }; changed = changed }) ⌝ }
+    ensures { λ r. ⌜ exitRun must may marks r ≡ metInto blocks n (entryAges musts mays) (entryRun must may marks changed) ⌝ }
 {
     let base = n * blocks;
     if marks[n] == 0 {

@@ -1,3 +1,3 @@
 pub mod Summing
 pub mod Answering
-pub mod Spending
+pub mod Totalled

@@ -1,31 +1,20 @@
--- What the totals' functions promise one another: what each node adds to the two sums, by the works that are kept. Nothing here is
--- document 01's.
+-- What the totals' functions promise one another: what a node of a class adds to the two sums. Nothing here is document 01's.
 use Prim.Native.Nat.{ℕ, _+_, _*_, _≤_}
-use mathlib.Core.Bool.{Bool, not, cond, _&&_}
 use mathlib.Core.List.{List, []}
 use lib.ListN.{getD}
-use lib.Dec.{ltb, eqb}
 use Rattle.lists.specs.Lists.{sumOf}
-use Rattle.rows.specs.declared.Work.{Work}
-use Rattle.rows.specs.declared.Work.the-variants.{Step, Reference}
-use Rattle.tables.specs.Lent.{Lent}
-use Rattle.passes.specs.declared.plans.Shape.{Shape}
-use Rattle.passes.specs.Plan.{workAt}
-use Rattle.analysis.specs.Inner.{workClass}
+use Rattle.costs.specs.Costs.{Prices, highRate, lowRate, classCost}
+use Rattle.totals.specs.declared.sums.Tariff.{Tariff}
 use Rattle.totals.specs.declared.sums.Sums.{Sums}
-use Rattle.totals.specs.Totals.{Prices, highRate, lowRate}
 
--- Whether node n's floor is above its ceiling.
-abbrev pub crossedAt : List ℕ → List ℕ → ℕ → Bool
-crossedAt floors ceilings n = ltb (getD ceilings n 0) (getD floors n 0)
-
--- Whether node n is not marked and its floor is above 0.
-abbrev pub floorAtUnmarked : List ℕ → List ℕ → ℕ → Bool
-floorAtUnmarked marks floors n = not (not (eqb (getD marks n 0) 0)) && ltb 0 (getD floors n 0)
+-- A tariff, floors and ceilings, put together.
+abbrev pub pricesOf : Tariff → List ℕ → List ℕ → Prices
+pricesOf tariff floors ceilings =
+    record { hitCost = tariff .hit; missCost = tariff .miss; floors = floors; ceilings = ceilings }
 
 -- Prices of which the costs alone count.
-abbrev pub costsOf : ℕ → ℕ → Prices
-costsOf hitCost missCost = record { hitCost = hitCost; missCost = missCost; floors = []; ceilings = [] }
+abbrev pub costsAlone : Tariff → Prices
+costsAlone tariff = pricesOf tariff [] []
 
 -- The most that one node adds to a sum.
 abbrev pub mostAdded : ℕ
@@ -36,41 +25,18 @@ pub record Small (nodes : ℕ) (sums : Sums) : Type 0 where
   pub low-most : sums .low ≤ nodes * mostAdded
   pub high-most : sums .high ≤ nodes * mostAdded
 
--- The sums with one reference of a class added.
-abbrev pub referenceAdded : Prices → ℕ → ℕ → ℕ → Sums → Sums
-referenceAdded prices class floor ceiling sums =
+-- The sums with one node of a class added.
+abbrev pub nodeAdded : Prices → ℕ → ℕ → ℕ → Sums → Sums
+nodeAdded prices class floor ceiling sums =
     record {
-      low = sums .low + floor * lowRate prices class;
-      high = sums .high + ceiling * highRate prices class;
+      low = sums .low + floor * classCost (lowRate prices) class;
+      high = sums .high + ceiling * classCost (highRate prices) class;
     }
 
--- What a visit of node n counts at a rate, by what the node does.
-abbrev pub workCost : (ℕ → ℕ) → Shape → Lent → ℕ → Work → ℕ
-workCost rate shape lent n Step = 0
-workCost rate shape lent n (Reference m) = rate (workClass shape lent n (Reference m))
-
-abbrev pub costIn : (ℕ → ℕ) → Shape → List ℕ → Lent → ℕ → ℕ
-costIn rate shape works lent n =
-    cond (eqb (getD (lent .marks) n 0) 0) 0 (workCost rate shape lent n (workAt (shape .blocks) works n))
-
--- What node n adds to each sum.
-abbrev pub lowAt : Prices → Shape → List ℕ → Lent → ℕ → ℕ
-lowAt prices shape works lent n = getD (prices .floors) n 0 * costIn (lowRate prices) shape works lent n
-
-abbrev pub highAt : Prices → Shape → List ℕ → Lent → ℕ → ℕ
-highAt prices shape works lent n = getD (prices .ceilings) n 0 * costIn (highRate prices) shape works lent n
-
--- The sums with node n added, and the sums over the first n nodes.
-abbrev pub nodeAdded : Prices → Shape → List ℕ → Lent → ℕ → Sums → Sums
-nodeAdded prices shape works lent n sums =
+-- The sums over the first n nodes, which have these classes.
+abbrev pub sumsTo : Prices → List ℕ → ℕ → Sums
+sumsTo prices classes n =
     record {
-      low = sums .low + lowAt prices shape works lent n;
-      high = sums .high + highAt prices shape works lent n;
-    }
-
-abbrev pub sumsTo : Prices → Shape → List ℕ → Lent → ℕ → Sums
-sumsTo prices shape works lent n =
-    record {
-      low = sumOf n (lowAt prices shape works lent);
-      high = sumOf n (highAt prices shape works lent);
+      low = sumOf n (λ k. getD (prices .floors) k 0 * classCost (lowRate prices) (getD classes k 0));
+      high = sumOf n (λ k. getD (prices .ceilings) k 0 * classCost (highRate prices) (getD classes k 0));
     }

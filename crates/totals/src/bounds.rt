@@ -3,7 +3,7 @@ ghost use mathlib.Core.Path.{_≡_};
 ghost use Prim.Native.Nat.{_≤_};
 ghost use lib.ListN.{length};
 ghost use Rattle.lists.specs.Choice.{first};
-ghost use Rattle.totals.specs.Inner.{crossedAt, floorAtUnmarked};
+ghost use Rattle.totals.specs.Totals.{crossedAt, floorAtUnmarked};
 
 // The first node whose floor is above its ceiling, or `nodes`.
 pub(crate) fn first_crossed(floors: &[u16], ceilings: &[u16], nodes: usize) -> usize
@@ -24,9 +24,7 @@ pub(crate) fn first_floor_at_unmarked(marks: &[u8], floors: &[u16], nodes: usize
     ensures { λ r. ⌜ r ≡ first nodes (floorAtUnmarked (now (marks .entry)) (now (floors .entry))) ⌝ }
 {
     for n in 0..nodes {
-        let marked = marks[n] != 0;
-        let bound = 0 < floors[n];
-        if !marked & bound {
+        if (marks[n] == 0) & (0 < floors[n]) {
             return n;
         }
     }

@@ -3,18 +3,16 @@ mod bounds;
 mod sums;
 
 ghost use mathlib.Core.Path.{_≡_};
-ghost use Rattle.chart.specs.Inner.{Found};
-ghost use Rattle.tables.specs.Lent.{Lent};
-ghost use Rattle.checker.specs.Checker.{checked};
-ghost use Rattle.checker.specs.declared.Checked.the-variants.{Passes};
-ghost use Rattle.totals.specs.Totals.{Prices, totals};
+ghost use Rattle.plan.specs.Listed.{DrawnIn, planAt};
+ghost use Rattle.tables.specs.Contract.{entryTable, RoomFor};
+ghost use Rattle.totals.specs.Totals.{entryPrices, totalledBy, totals};
 use crate::bounds::first_crossed;
 use crate::bounds::first_floor_at_unmarked;
+use crate::sums::Tariff;
 use crate::sums::sum_nodes;
-use chart::Header;
+use chart::Geometry;
 use chart::Verdict;
 use checker::Checked;
-use passes::Shape;
 use refusals::Refusal;
 
 // The low and the high total, or a refusal.
@@ -23,31 +21,27 @@ pub enum Totals {
     Refused(Refusal),
 }
 
-// What the totals answer for an accepted chart and a table that passes: one of refusals 14 to 17, or the two sums.
-fn total_passing(
-    chart: &[u8],
-    header: Header,
-    blocks: &[u32],
-    count: usize,
+// What the totals answer for a table that passes: one of refusals 14 to 17, or the two sums.
+fn total_drawn(
+    columns: &[u8],
+    plan: &[u16],
     must: &[u8],
     may: &[u8],
     marks: &[u8],
-    hit: u16,
-    miss: u16,
+    tariff: Tariff,
     floors: &[u16],
     ceilings: &[u16],
 ) -> Totals
-    requires { ⌜ Found (now chart) header count (now blocks) ⌝ }
-    requires { ⌜ Passes ≡ checked (now chart) (record { must = now must; may = now may; marks = now marks }) ⌝ }
-    ensures { λ r. ⌜ r ≡ totals (now (chart .entry)) (record { must = now (must .entry); may = now (may .entry); marks = now (marks .entry) }) (record { hitCost = hit; missCost = miss; floors = now (floors .entry); ceilings = now (ceilings .entry) }) ⌝ }
+    requires { ⌜ DrawnIn columns plan ⌝ }
+    requires { ⌜ RoomFor plan must may marks ⌝ }
+    ensures { λ r. ⌜ r ≡ totalledBy (planAt columns plan) (entryTable must may marks) (entryPrices (tariff .hit) (tariff .miss) floors ceilings) ⌝ }
 {
-    let geometry = header.geometry;
-    let nodes = header.nodes;
+    let nodes = plan::nodes_in(plan);
     let whole = (floors.len() == nodes) & (ceilings.len() == nodes);
     if !whole {
         return Totals::Refused(Refusal::BoundsLength);
     }
-    if miss < hit {
+    if tariff.miss < tariff.hit {
         return Totals::Refused(Refusal::Costs);
     }
     let crossed = first_crossed(floors, ceilings, nodes);
@@ -58,53 +52,12 @@ fn total_passing(
     if unmarked < nodes {
         return Totals::Refused(Refusal::FloorAtUnmarked(unmarked));
     }
-    let shape = Shape {
-        ways: geometry.ways,
-        nodes: nodes,
-        blocks: count,
-    };
-    let works = passes::works_of(chart, nodes, geometry, blocks, count);
-    let sums = sum_nodes(shape, &works, must, may, marks, hit, miss, floors, ceilings);
+    let mut classes = [0u8; Geometry::NODES];
+    classing::write_classes(columns, plan, must, may, marks, &mut classes);
+    let sums = sum_nodes(&classes, nodes, tariff, floors, ceilings);
     Totals::Between {
         low: sums.low,
         high: sums.high,
-    }
-}
-
-// What the totals answer for an accepted chart.
-fn total_accepted(
-    chart: &[u8],
-    header: Header,
-    blocks: &[u32],
-    count: usize,
-    must: &[u8],
-    may: &[u8],
-    marks: &[u8],
-    hit: u16,
-    miss: u16,
-    floors: &[u16],
-    ceilings: &[u16],
-) -> Totals
-    requires { ⌜ Found (now chart) header count (now blocks) ⌝ }
-    ensures { λ r. ⌜ r ≡ totals (now (chart .entry)) (record { must = now (must .entry); may = now (may .entry); marks = now (marks .entry) }) (record { hitCost = hit; missCost = miss; floors = now (floors .entry); ceilings = now (ceilings .entry) }) ⌝ }
-{
-    let answer = checker::check_accepted(chart, header, blocks, count, must, may, marks);
-    match answer {
-        Checked::Refused(refusal) => Totals::Refused(refusal),
-        Checked::Fails => Totals::Refused(Refusal::NotPassing),
-        Checked::Passes => total_passing(
-            chart,
-            header,
-            blocks,
-            count,
-            must,
-            may,
-            marks,
-            hit,
-            miss,
-            floors,
-            ceilings,
-        ),
     }
 }
 
@@ -120,23 +73,29 @@ pub fn total(
     floors: &[u16],
     ceilings: &[u16],
 ) -> Totals
-    ensures { λ r. ⌜ r ≡ totals (now (chart .entry)) (record { must = now (must .entry); may = now (may .entry); marks = now (marks .entry) }) (record { hitCost = hit; missCost = miss; floors = now (floors .entry); ceilings = now (ceilings .entry) }) ⌝ }
+    ensures { λ r. ⌜ r ≡ totals (now (chart .entry)) (entryTable must may marks) (entryPrices hit miss floors ceilings) ⌝ }
 {
-    let reading = chart::read(chart);
+    let mut columns = [0u8; plan::COLUMNS];
+    let mut plan = [0u16; plan::LENGTH];
+    let reading = drawing::draw(chart, &mut columns, &mut plan);
     let verdict = reading.verdict;
-    let blocks = reading.blocks;
-    match verdict {
-        Verdict::Refused(refusal) => Totals::Refused(refusal),
-        Verdict::Accepted(header, count) => total_accepted(
-            chart,
-            header,
-            &blocks,
-            count,
+    if let Verdict::Refused(refusal) = verdict {
+        return Totals::Refused(refusal);
+    }
+    let answer = checker::check_drawn(&columns, &plan, must, may, marks);
+    match answer {
+        Checked::Refused(refusal) => Totals::Refused(refusal),
+        Checked::Fails => Totals::Refused(Refusal::NotPassing),
+        Checked::Passes => total_drawn(
+            &columns,
+            &plan,
             must,
             may,
             marks,
-            hit,
-            miss,
+            Tariff {
+                hit: hit,
+                miss: miss,
+            },
             floors,
             ceilings,
         ),

@@ -1,6 +1,6 @@
 //! Charts as bytes: document 01's fields as plain numbers, allowed or not, and their packing.
 //!
-//! Nothing here knows which values are allowed, so that a test can build any damage it likes.
+//! Nothing here but the random charts knows which values are allowed, so that a test can build any damage it likes.
 
 mod chart;
 mod header;

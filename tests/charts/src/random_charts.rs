@@ -3,6 +3,9 @@
 use crate::random::Random;
 use crate::{Chart, Header, Record};
 
+const NODES: u64 = second::limits::NODES as u64;
+const BLOCKS: u64 = second::limits::BLOCKS as u64;
+
 /// How most arrows of a chart run. Left to chance alone, few nodes are reached and few passes are made.
 #[derive(Clone, Copy)]
 enum Course {
@@ -17,7 +20,7 @@ pub fn whole(random: &mut Random) -> Chart {
         0 => random.within(1, 4),
         1 => random.within(1, 60),
         2 => random.within(60, 140),
-        _ => random.within(250, 256),
+        _ => random.within(NODES - 6, NODES),
     };
     of_nodes(random, nodes)
 }
@@ -63,12 +66,12 @@ fn header(random: &mut Random, nodes: u64, course: Course) -> Header {
 }
 
 /// The first addresses of the blocks that a chart may touch. Often they are few, so that one is touched again soon, and often they
-/// number about 64, to come near the limit from both sides.
+/// number about the most, to come near the limit from both sides.
 fn pool(random: &mut Random, line: u64) -> Vec<u64> {
     let size = match random.below(5) {
         0 | 1 => random.within(1, 5),
         2 => random.within(5, 15),
-        3 => random.within(63, 66),
+        3 => random.within(BLOCKS - 1, BLOCKS + 2),
         _ => random.within(1, 100),
     };
     (0..size).map(|_| random.below(1 << 32) >> line << line).collect()
@@ -140,7 +143,7 @@ fn damage_header(random: &mut Random, header: &mut Header) {
         3 => header.ways = random.below(16),
         4 => header.start = random.below(4),
         5 => header.spare = random.below(1024),
-        6 if random.once_in(2) => header.nodes = random.below(300),
+        6 if random.once_in(2) => header.nodes = random.below(NODES + 44),
         6 => header.nodes = random.below(4096),
         7 if random.once_in(2) => header.entry = random.within(header.nodes.saturating_sub(1), header.nodes).min(4095),
         7 => header.entry = random.below(4096),

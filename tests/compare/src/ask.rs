@@ -6,7 +6,7 @@ use crate::lent::Lent;
 use crate::same::{same, Held};
 use crate::table::LentTable;
 use crate::tally::{Tally, ANSWER};
-use veilbuzz::{Bounds, Costs, Header, Refusal, Settled, Totals};
+use veilbuzz::{Bounds, Costs, Header, Refusal, Settled, Totals, Unsettled};
 
 /// Counts an answer of a function by the number of its refusal, 0 for none.
 fn counted<T>(tally: &mut Tally, function: &'static str, answer: &Result<T, Refusal>) {
@@ -33,14 +33,14 @@ pub fn analyse(
     chart: &[u8],
     allowance: usize,
     lent: &Lent,
-) -> Held<(Result<Settled, Refusal>, Lent)> {
+) -> Held<(Result<Settled, Unsettled>, Lent)> {
     let (mut ours, mut second) = (lent.clone(), lent.clone());
     let answer = veilbuzz::analyse(chart, allowance, ours.to_archive());
     let other = expected::analyse(chart, allowance, &mut second);
     same("analyse", &answer, &other)
         .and_then(|()| ours.same(&second))
         .map_err(|words| format!("{words}, with allowance {allowance}"))?;
-    counted(tally, ANALYSE, &answer);
+    counted(tally, ANALYSE, &answer.map_err(Refusal::from));
     Ok((answer, ours))
 }
 

@@ -4,6 +4,7 @@ use crate::lent::{Lengths, NAMES};
 use crate::tally::Tally;
 use charts::random::Random;
 use charts::random_charts::{damaged, of_nodes};
+use second::limits::{NODES, PASSES};
 
 /// A chart, whole or damaged. Small ones are quick and have most of what can go wrong; few are large.
 pub fn chart(random: &mut Random) -> Vec<u8> {
@@ -11,7 +12,7 @@ pub fn chart(random: &mut Random) -> Vec<u8> {
         0..=139 => random.within(1, 8),
         140..=185 => random.within(9, 24),
         186..=195 => random.within(25, 80),
-        _ => random.within(81, 256),
+        _ => random.within(81, NODES as u64),
     };
     let chart = of_nodes(random, nodes);
     if random.once_in(3) {
@@ -35,16 +36,7 @@ pub const LENGTHS: [&str; 5] = [
 pub fn allowance(random: &mut Random, tally: &mut Tally, passes: usize) -> usize {
     let kind = random.below(ALLOWANCES as u64) as usize;
     tally.at(ALLOWANCE, kind);
-    [
-        0,
-        1,
-        passes - 1,
-        passes,
-        passes + 1,
-        veilbuzz::PASSES,
-        1 << 32,
-        usize::MAX,
-    ][kind]
+    [0, 1, passes - 1, passes, passes + 1, PASSES, 1 << 32, usize::MAX][kind]
 }
 
 /// Lengths around the used ones: none, one too few, just enough, one more, many more. Most are enough.

@@ -8,14 +8,12 @@ use second::chart::Chart;
 use second::checker;
 use second::header;
 use second::totals;
-use veilbuzz::{Bounds, Costs, Header, Refusal, Settled, Start, Totals};
+use veilbuzz::{Bounds, Costs, Header, Refusal, Settled, Start, Totals, Unsettled};
 
 fn refusal(refusal: second::refusal::Refusal) -> Refusal {
     Refusal {
         number: refusal.number,
         place: refusal.place,
-        passes: 0,
-        blocks: 0,
     }
 }
 
@@ -35,16 +33,11 @@ pub fn read(bytes: &[u8]) -> Result<Header, Refusal> {
     })
 }
 
-pub fn analyse(bytes: &[u8], allowance: usize, lent: &mut Lent) -> Result<Settled, Refusal> {
+pub fn analyse(bytes: &[u8], allowance: usize, lent: &mut Lent) -> Result<Settled, Unsettled> {
     match analysis::analyse(bytes, allowance, lent.to_second()) {
         Analysed::Settled { passes, blocks } => Ok(Settled { passes, blocks }),
-        Analysed::Unsettled { allowance, blocks } => Err(Refusal {
-            number: 12,
-            place: 0,
-            passes: allowance,
-            blocks,
-        }),
-        Analysed::Refused(refused) => Err(refusal(refused)),
+        Analysed::Unsettled { allowance, blocks } => Err(Unsettled::Spent { allowance, blocks }),
+        Analysed::Refused(refused) => Err(Unsettled::Refused(refusal(refused))),
     }
 }
 

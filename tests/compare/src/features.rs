@@ -3,6 +3,7 @@
 use crate::tally::Tally;
 use second::chart::Chart;
 use second::header::Start;
+use second::limits::WAYS;
 use veilbuzz::Settled;
 
 pub const NODES: &str = "nodes";
@@ -11,8 +12,8 @@ pub const PASSES: &str = "passes";
 pub const CLASS: &str = "class";
 pub const GEOMETRY: &str = "geometry and start";
 
-/// The numbers of all shapes of a cache with both starts run from 0 to this, without it: 7 of L, 9 of S, 8 of A.
-pub const GEOMETRIES: usize = 7 * 9 * 8 * 2;
+/// The numbers of all shapes of a cache with both starts run from 0 to this, without it: 7 of L, 9 of S, those of A.
+pub const GEOMETRIES: usize = 7 * 9 * WAYS * 2;
 
 /// What arrows and nodes may be like.
 pub const LIKE: [&str; 9] = [
@@ -35,7 +36,7 @@ fn geometry(chart: &Chart) -> usize {
         usize::from(shape.ways) - 1,
     );
     let start = usize::from(chart.header.start == Start::Empty);
-    ((line * 9 + sets) * 8 + ways) * 2 + start
+    ((line * 9 + sets) * WAYS + ways) * 2 + start
 }
 
 /// Counts what a settled chart has, and the classes that it was given.

@@ -1,4 +1,4 @@
-//! The C functions without the wrapper: all seven numbers of each answer, and lists for them of any length.
+//! The C functions without the wrapper: all numbers of each answer, and lists for them of any length.
 
 use crate::ask::LentBounds;
 use crate::expected;
@@ -8,27 +8,18 @@ use crate::same::{same, Held};
 use crate::table::LentTable;
 use crate::tally::{Tally, ANSWER};
 use charts::random::Random;
-use veilbuzz::raw::{self, ANSWER_LENGTH as NUMBERS};
-use veilbuzz::{Costs, Refusal, Start};
+use veilbuzz::raw;
+use veilbuzz::{Costs, Refusal, Start, Unsettled};
 
 /// How the lengths of lists are counted.
 pub const ANSWER_LIST: &str = "answer list of length";
 pub const HEADER_LIST: &str = "header list of length";
 
-type Numbers = [u64; NUMBERS];
-
-/// The seven numbers of an answer: those of a refusal, or else what the function has to say, put in their places.
-fn numbers<T>(answer: Result<T, Refusal>, say: impl FnOnce(T, &mut Numbers)) -> Numbers {
+/// The numbers of a refusal: its number, its place, and zeros for what the function alone returns.
+fn refused<const NUMBERS: usize>(refusal: Refusal) -> [u64; NUMBERS] {
     let mut numbers = [0; NUMBERS];
-    match answer {
-        Ok(answer) => say(answer, &mut numbers),
-        Err(refusal) => {
-            numbers[raw::NUMBER] = refusal.number as u64;
-            numbers[raw::PLACE] = refusal.place as u64;
-            numbers[raw::PASSES] = refusal.passes as u64;
-            numbers[raw::BLOCKS] = refusal.blocks as u64;
-        }
-    }
+    numbers[raw::NUMBER] = refusal.number as u64;
+    numbers[raw::PLACE] = refusal.place as u64;
     numbers
 }
 
@@ -46,12 +37,12 @@ fn list(random: &mut Random, numbers: &[u64]) -> (Guarded<u64>, Guarded<u64>) {
     (before, after)
 }
 
-/// Holds a function to its seven numbers.
-fn tells(
+/// Holds a function to the numbers of its answer.
+fn tells<const NUMBERS: usize>(
     random: &mut Random,
     tally: &mut Tally,
     what: &str,
-    numbers: Numbers,
+    numbers: [u64; NUMBERS],
     call: impl FnOnce(*mut u64, usize) -> u64,
 ) -> Held {
     let (mut answer, told) = list(random, &numbers);
@@ -82,11 +73,9 @@ pub fn read(random: &mut Random, tally: &mut Tally, chart: &[u8]) -> Held {
         places.copy_from_slice(&six);
     }
     tally.at(HEADER_LIST, header.lent().len());
-    let seven = numbers(expected, |header, numbers| {
-        numbers[raw::BLOCKS] = header.blocks as u64;
-    });
+    let numbers = expected.map_or_else(refused::<{ raw::READ_LENGTH }>, |header| [0, 0, header.blocks as u64]);
     let place = header.lent_mut();
-    tells(random, tally, "veilbuzz_read", seven, |answer, length| unsafe {
+    tells(random, tally, "veilbuzz_read", numbers, |answer, length| unsafe {
         raw::veilbuzz_read(
             chart.as_ptr(),
             chart.len(),
@@ -101,13 +90,13 @@ pub fn read(random: &mut Random, tally: &mut Tally, chart: &[u8]) -> Held {
 
 pub fn analyse(random: &mut Random, tally: &mut Tally, chart: &[u8], allowance: usize, lent: &Lent) -> Held {
     let (mut ours, mut second) = (lent.clone(), lent.clone());
-    let expected = expected::analyse(chart, allowance, &mut second);
-    let seven = numbers(expected, |settled, numbers| {
-        numbers[raw::PASSES] = settled.passes as u64;
-        numbers[raw::BLOCKS] = settled.blocks as u64;
-    });
+    let numbers: [u64; raw::ANALYSE_LENGTH] = match expected::analyse(chart, allowance, &mut second) {
+        Ok(settled) => [0, 0, settled.passes as u64, settled.blocks as u64],
+        Err(Unsettled::Spent { allowance, blocks }) => [12, 0, allowance as u64, blocks as u64],
+        Err(Unsettled::Refused(refusal)) => refused(refusal),
+    };
     let lent = ours.to_archive();
-    tells(random, tally, "veilbuzz_analyse", seven, |answer, length| unsafe {
+    tells(random, tally, "veilbuzz_analyse", numbers, |answer, length| unsafe {
         raw::veilbuzz_analyse(
             chart.as_ptr(),
             chart.len(),
@@ -130,11 +119,10 @@ pub fn analyse(random: &mut Random, tally: &mut Tally, chart: &[u8], allowance: 
 }
 
 pub fn check(random: &mut Random, tally: &mut Tally, chart: &[u8], table: &LentTable) -> Held {
-    let seven = numbers(expected::check(chart, table), |yes, numbers| {
-        numbers[raw::YES] = yes.into();
-    });
+    let expected = expected::check(chart, table);
+    let numbers = expected.map_or_else(refused::<{ raw::CHECK_LENGTH }>, |yes| [0, 0, yes.into()]);
     let table = table.to_archive();
-    tells(random, tally, "veilbuzz_check", seven, |answer, length| unsafe {
+    tells(random, tally, "veilbuzz_check", numbers, |answer, length| unsafe {
         raw::veilbuzz_check(
             chart.as_ptr(),
             chart.len(),
@@ -159,11 +147,11 @@ pub fn total(
     bounds: &LentBounds,
 ) -> Held {
     let expected = expected::total(chart, table, costs, bounds.bounds());
-    let seven = numbers(expected, |totals, numbers| {
-        (numbers[raw::LOW], numbers[raw::HIGH]) = (totals.low, totals.high);
+    let numbers = expected.map_or_else(refused::<{ raw::TOTAL_LENGTH }>, |totals| {
+        [0, 0, totals.low, totals.high]
     });
     let (table, bounds) = (table.to_archive(), bounds.bounds());
-    tells(random, tally, "veilbuzz_total", seven, |answer, length| unsafe {
+    tells(random, tally, "veilbuzz_total", numbers, |answer, length| unsafe {
         raw::veilbuzz_total(
             chart.as_ptr(),
             chart.len(),

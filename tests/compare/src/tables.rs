@@ -3,8 +3,8 @@
 use crate::table::Table;
 use charts::random::Random;
 use second::chart::Chart;
+use second::limits::PASSES;
 use second::passes::settle;
-use second::report::ALLOWANCE;
 use second::table;
 use std::ops::Range;
 
@@ -69,7 +69,7 @@ fn looser(random: &mut Random, chart: &Chart, tightest: &Table) -> Table {
         may: &mut drawn.may,
         marks: &mut drawn.marks,
     };
-    settle(chart, &mut table, ALLOWANCE).expect("ages change so often at most");
+    settle(chart, &mut table, PASSES).expect("ages change so often at most");
     drawn
 }
 

@@ -10,7 +10,7 @@ use charts::random::Random;
 use second::analysis::Analysed;
 use second::chart::Chart;
 use second::lending::Lending;
-use second::report::ALLOWANCE;
+use second::limits::PASSES;
 
 pub fn case(random: &mut Random) -> Case {
     let bytes = inputs::bytes(random, 4);
@@ -34,7 +34,7 @@ pub fn case(random: &mut Random) -> Case {
         allowance: allowance as u64,
         hit: 0,
         miss: 0,
-        returned: answer.number,
+        returned: answer.number(),
         buffers: vec![
             Buffer::whole(&bytes),
             Buffer::written(&lending.blocks, blocks, used(blocks), fills[0]),
@@ -57,7 +57,7 @@ fn sizes(random: &mut Random, bytes: &[u8]) -> (usize, usize) {
 
 /// The passes allowed: as many as are made, one less, one more, none, one, enough for all charts, the most that there are.
 fn allowance(random: &mut Random, bytes: &[u8]) -> usize {
-    let made = match Lending::largest().analyse(bytes, ALLOWANCE) {
+    let made = match Lending::largest().analyse(bytes, PASSES) {
         Analysed::Settled { passes, .. } => passes,
         _ => 1,
     };
@@ -69,20 +69,15 @@ fn allowance(random: &mut Random, bytes: &[u8]) -> usize {
         4 => usize::MAX,
         5 => random.below(made as u64 + 2) as usize,
         6 | 7 => made,
-        _ => ALLOWANCE,
+        _ => PASSES,
     }
 }
 
-fn answer(analysed: Analysed) -> Answer {
-    let (number, passes, blocks) = match analysed {
-        Analysed::Refused(refusal) => return Answer::refused(refusal),
-        Analysed::Settled { passes, blocks } => (0, passes, blocks),
-        Analysed::Unsettled { allowance, blocks } => (12, allowance, blocks),
-    };
-    Answer {
-        number,
-        passes: passes as u64,
-        blocks: blocks as u64,
-        ..Answer::default()
+/// Number, place, passes and blocks.
+fn answer(analysed: Analysed) -> Answer<4> {
+    match analysed {
+        Analysed::Refused(refusal) => Answer::refused(refusal),
+        Analysed::Settled { passes, blocks } => Answer([0, 0, passes as u64, blocks as u64]),
+        Analysed::Unsettled { allowance, blocks } => Answer([12, 0, allowance as u64, blocks as u64]),
     }
 }

@@ -6,42 +6,25 @@ use crate::lengths::list;
 use charts::random::Random;
 use second::refusal::Refusal;
 
-/// How many numbers an answer has.
-const NUMBERS: usize = 7;
+/// The numbers of an answer: a refusal's number and place, both 0 for none, and then what its function alone returns.
+pub struct Answer<const NUMBERS: usize>(pub [u64; NUMBERS]);
 
-/// An answer. What a function does not have is 0.
-#[derive(Clone, Copy, Default)]
-pub struct Answer {
-    pub number: u64,
-    pub place: u64,
-    pub passes: u64,
-    pub blocks: u64,
-    pub yes: u64,
-    pub low: u64,
-    pub high: u64,
-}
-
-impl Answer {
-    pub fn refused(refusal: Refusal) -> Answer {
-        Answer {
-            number: refusal.number as u64,
-            place: refusal.place as u64,
-            ..Answer::default()
-        }
+impl<const NUMBERS: usize> Answer<NUMBERS> {
+    /// A refusal, with zeros behind its number and its place.
+    pub fn refused(refusal: Refusal) -> Self {
+        let mut numbers = [0; NUMBERS];
+        (numbers[0], numbers[1]) = (refusal.number as u64, refusal.place as u64);
+        Answer(numbers)
     }
 
-    /// The list that an answer is told in. One of fewer than seven places stays as it was.
-    pub fn told(self, random: &mut Random) -> Buffer {
-        let numbers = [
-            self.number,
-            self.place,
-            self.passes,
-            self.blocks,
-            self.yes,
-            self.low,
-            self.high,
-        ];
-        told(random, Some(&numbers), NUMBERS)
+    /// What the function returns.
+    pub fn number(&self) -> u64 {
+        self.0[0]
+    }
+
+    /// The list that an answer is told in. One without room for all of it stays as it was.
+    pub fn told(&self, random: &mut Random) -> Buffer {
+        told(random, Some(&self.0), NUMBERS)
     }
 }
 

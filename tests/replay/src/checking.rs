@@ -10,11 +10,9 @@ use charts::random::Random;
 pub fn case(random: &mut Random) -> Case {
     let bytes = inputs::bytes(random, 4);
     let table = Table::of(random, &bytes, 2);
-    let answer = match second::checker::check(&bytes, table.lent()) {
-        Ok(yes) => Answer {
-            yes: yes.into(),
-            ..Answer::default()
-        },
+    // number, place, and whether it passes
+    let answer: Answer<3> = match second::checker::check(&bytes, table.lent()) {
+        Ok(yes) => Answer([0, 0, yes.into()]),
         Err(refusal) => Answer::refused(refusal),
     };
     let mut buffers = vec![Buffer::whole(&bytes)];
@@ -25,7 +23,7 @@ pub fn case(random: &mut Random) -> Case {
         allowance: 0,
         hit: 0,
         miss: 0,
-        returned: answer.number,
+        returned: answer.number(),
         buffers,
     }
 }

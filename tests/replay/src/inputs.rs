@@ -3,10 +3,11 @@
 use charts::random::Random;
 use charts::random_charts::{damaged, whole};
 use charts::Chart;
+use second::limits::NODES;
 
 /// A chart with no fault but perhaps a block too many.
 pub fn chart(random: &mut Random) -> Chart {
-    let most = if random.once_in(8) { 256 } else { 10 };
+    let most = if random.once_in(8) { NODES } else { 10 };
     loop {
         let chart = whole(random);
         if chart.records.len() <= most {

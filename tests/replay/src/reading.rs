@@ -12,14 +12,9 @@ const NUMBERS: usize = 6;
 
 pub fn case(random: &mut Random) -> Case {
     let bytes = inputs::bytes(random, 2);
-    let (answer, header) = match Chart::read(&bytes) {
-        Ok(chart) => (
-            Answer {
-                blocks: chart.blocks.len() as u64,
-                ..Answer::default()
-            },
-            Some(header(&chart)),
-        ),
+    // number, place and blocks
+    let (answer, header): (Answer<3>, _) = match Chart::read(&bytes) {
+        Ok(chart) => (Answer([0, 0, chart.blocks.len() as u64]), Some(header(&chart))),
         Err(refusal) => (Answer::refused(refusal), None),
     };
     let header = told(random, header.as_ref().map(|numbers| &numbers[..]), NUMBERS);
@@ -28,7 +23,7 @@ pub fn case(random: &mut Random) -> Case {
         allowance: 0,
         hit: 0,
         miss: 0,
-        returned: answer.number,
+        returned: answer.number(),
         buffers: vec![Buffer::whole(&bytes), header, answer.told(random)],
     }
 }

@@ -6,7 +6,7 @@ use charts::random::Random;
 use second::chart::Chart;
 use second::lending::Lending;
 use second::lent::Lent;
-use second::report::ALLOWANCE;
+use second::limits::PASSES;
 
 /// A table in three buffers, which may be shorter or longer than it.
 pub struct Table {
@@ -44,7 +44,7 @@ impl Table {
 /// A table of just the size that a chart needs.
 fn table(random: &mut Random, bytes: &[u8], chart: &Chart, turns: u64) -> Lending {
     let mut table = Lending::of(chart.blocks.len(), chart.nodes.len(), 0);
-    table.analyse(bytes, ALLOWANCE);
+    table.analyse(bytes, PASSES);
     if !random.once_in(turns) {
         return table;
     }

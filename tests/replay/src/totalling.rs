@@ -22,12 +22,9 @@ pub fn case(random: &mut Random) -> Case {
         floors: &floors.elements::<u16>(),
         ceilings: &ceilings.elements::<u16>(),
     };
-    let answer = match totals(&bytes, table.lent(), costs, bounds) {
-        Ok(totals) => Answer {
-            low: totals.low,
-            high: totals.high,
-            ..Answer::default()
-        },
+    // number, place, low and high
+    let answer: Answer<4> = match totals(&bytes, table.lent(), costs, bounds) {
+        Ok(totals) => Answer([0, 0, totals.low, totals.high]),
         Err(refusal) => Answer::refused(refusal),
     };
     let mut buffers = vec![Buffer::whole(&bytes)];
@@ -38,7 +35,7 @@ pub fn case(random: &mut Random) -> Case {
         allowance: 0,
         hit: costs.hit,
         miss: costs.miss,
-        returned: answer.number,
+        returned: answer.number(),
         buffers,
     }
 }

@@ -137,7 +137,7 @@ fn lists_of_numbers_have_0_to_10_places() {
 fn the_checker_says_yes_and_no() {
     let verdict = |case: Case| {
         let answer = case.buffers.last().expect("an answer is lent").elements::<u64>();
-        (answer.len() >= 7).then(|| answer[4])
+        answer.get(2).copied()
     };
     let met = tally(
         cases()

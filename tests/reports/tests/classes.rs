@@ -2,6 +2,7 @@
 
 use charts::{Chart, Record};
 use reports::hold::says;
+use second::limits::NODES;
 
 /// The report of one node, under the sample's header.
 fn one(record: Record, start: u64, word: &str) {
@@ -80,9 +81,9 @@ fn all_words_stand_in_one_report() {
 
 #[test]
 fn a_node_number_has_as_many_digits_as_it_needs() {
-    let lines: String = (1..256).map(|node| format!("\n{node} unreached")).collect();
+    let lines: String = (1..NODES).map(|node| format!("\n{node} unreached")).collect();
     says(
-        &Chart::steps(256).bytes(),
-        &format!("nodes 256 blocks 0 passes 1\n0 none{lines}"),
+        &Chart::steps(NODES).bytes(),
+        &format!("nodes {NODES} blocks 0 passes 1\n0 none{lines}"),
     );
 }

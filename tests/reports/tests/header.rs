@@ -3,6 +3,7 @@
 use charts::{Chart, Header};
 use reports::each::each;
 use reports::hold::{accepts, says};
+use second::limits::NODES;
 
 /// One bare step under the sample's header, changed.
 fn changed(change: impl Fn(&mut Header)) -> Vec<u8> {
@@ -69,18 +70,18 @@ fn starts_0_and_1_pass_and_2_and_3_give_4() {
 }
 
 #[test]
-fn counts_1_to_256_pass_and_others_give_5() {
-    each(&[1, 2, 3, 127, 128, 255, 256], |&nodes| {
+fn counts_up_to_the_most_pass_and_others_give_5() {
+    each(&[1, 2, 3, NODES / 2 - 1, NODES / 2, NODES - 1, NODES], |&nodes| {
         accepts(&Chart::steps(nodes).bytes(), nodes, 0);
     });
-    each(&[0, 257, 258, 511, 512, 4095], |&nodes| {
+    each(&[0, NODES + 1, NODES + 2, 2 * NODES - 1, 2 * NODES, 4095], |&nodes| {
         says(&Chart::steps(nodes).bytes(), "refused 5 at 0");
     });
 }
 
 #[test]
 fn an_entry_below_n_passes_and_n_and_above_give_6() {
-    for nodes in [1, 2, 3, 255, 256] {
+    for nodes in [1, 2, 3, NODES - 1, NODES] {
         let mut chart = Chart::steps(nodes);
         chart.header.entry = nodes as u64 - 1;
         accepts(&chart.bytes(), nodes, 0);

@@ -5,7 +5,8 @@ use charts::Chart;
 use reports::each::each;
 use reports::hold::{agrees, same};
 use reports::program::{command, command_after, ends, finish, hand, runs, start};
-use second::report::report;
+use second::limits::{LONGEST, NODES};
+use second::report::{report, INPUT};
 use std::fs::File;
 use std::io::{Read, Write};
 use std::process::{Command, Stdio};
@@ -25,13 +26,13 @@ fn a_single_byte_is_refused_whatever_it_is() {
 
 #[test]
 fn random_bytes_get_the_second_programs_answer() {
-    let sizes = [2, 7, 8, 9, 16, 100, 2_055, 2_056, 2_057, 5_000];
+    let sizes = [2, 7, 8, 9, 16, 100, LONGEST - 1, LONGEST, INPUT, 2 * INPUT];
     each(&sizes, |&size| agrees(&noise(size as u64, size)));
 }
 
 #[test]
 fn random_bytes_behind_a_right_header_get_the_second_programs_answer() {
-    each(&[1, 2, 3, 16, 255, 256], |&nodes| {
+    each(&[1, 2, 3, 16, NODES - 1, NODES], |&nodes| {
         let mut bytes = Chart::steps(nodes).bytes();
         let size = bytes.len();
         bytes[8..].copy_from_slice(&noise(nodes as u64, size - 8));
@@ -40,15 +41,15 @@ fn random_bytes_behind_a_right_header_get_the_second_programs_answer() {
 }
 
 #[test]
-fn an_input_without_an_end_gets_the_answer_for_its_first_2057_bytes() {
-    for begins in [Chart::steps(256).bytes(), Chart::sample().bytes(), Vec::new()] {
+fn an_input_without_an_end_gets_the_answer_for_its_first_bytes() {
+    for begins in [Chart::steps(NODES).bytes(), Chart::sample().bytes(), Vec::new()] {
         let mut child = start(command());
         hand(&mut child, &begins);
         let mut input = child.stdin.take().expect("standard input is open");
         let endless = thread::spawn(move || while input.write_all(&[0; 4_096]).is_ok() {});
         assert!(ends(&mut child), "the program does not end on zeros without an end");
         let mut taken = begins;
-        taken.resize(2_057, 0);
+        taken.resize(INPUT, 0);
         same(&finish(child), &taken);
         endless.join().expect("nobody takes the zeros any more");
     }
@@ -60,7 +61,7 @@ fn the_endless_sources_of_the_machine_get_an_answer() {
     zeros.stdin(File::open("/dev/zero").expect("/dev/zero is there"));
     let mut child = start(zeros);
     assert!(ends(&mut child), "the program does not end on /dev/zero");
-    same(&finish(child), &[0; 2_057]);
+    same(&finish(child), &[0; INPUT]);
 
     let mut yes = Command::new("yes")
         .stdout(Stdio::piped())
@@ -70,7 +71,7 @@ fn the_endless_sources_of_the_machine_get_an_answer() {
     ayes.stdin(yes.stdout.take().expect("its output is piped"));
     let mut child = start(ayes);
     assert!(ends(&mut child), "the program does not end on what yes says");
-    same(&finish(child), &b"y\n".repeat(1_029)[..2_057]);
+    same(&finish(child), &b"y\n".repeat(INPUT)[..INPUT]);
     yes.wait().expect("yes ends when nobody reads it");
 }
 
@@ -101,7 +102,7 @@ fn a_program_with_no_output_or_no_stream_at_all_ends() {
 
 #[test]
 fn a_reader_that_takes_a_few_bytes_and_goes_gets_a_beginning_of_the_report() {
-    let chart = Chart::steps(256).bytes();
+    let chart = Chart::steps(NODES).bytes();
     let mut child = start(command());
     hand(&mut child, &chart);
     drop(child.stdin.take());

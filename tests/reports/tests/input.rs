@@ -4,21 +4,32 @@ use charts::Chart;
 use reports::each::each;
 use reports::hold::{same, says};
 use reports::program::{command, command_after, ends, file, finish, hand, run, start};
+use second::limits::{LONGEST, NODES};
+use second::report::INPUT;
 use std::fs::File;
 use std::thread::sleep;
 use std::time::Duration;
 
 /// The longest chart, with zeros after it up to a size.
 fn longest(size: usize) -> Vec<u8> {
-    let mut bytes = Chart::steps(256).bytes();
+    let mut bytes = Chart::steps(NODES).bytes();
     bytes.resize(size, 0);
     bytes
 }
 
 #[test]
-fn an_input_longer_than_any_chart_gets_the_answer_for_its_first_2057_bytes() {
+fn an_input_longer_than_any_chart_gets_the_answer_for_its_first_bytes() {
     each(
-        &[2_057, 2_058, 2_064, 4_096, 6_153, 6_154, 70_000, 1_000_000],
+        &[
+            INPUT,
+            INPUT + 1,
+            INPUT + 7,
+            2 * INPUT - 18,
+            3 * INPUT - 18,
+            3 * INPUT - 17,
+            70_000,
+            1_000_000,
+        ],
         |&size| {
             says(&longest(size), "refused 8 at 0");
         },
@@ -27,16 +38,16 @@ fn an_input_longer_than_any_chart_gets_the_answer_for_its_first_2057_bytes() {
 
 #[test]
 fn a_longer_input_is_still_held_to_its_header_first() {
-    let mut bytes = longest(10_000);
+    let mut bytes = longest(5 * LONGEST);
     bytes[0] = 2;
     says(&bytes, "refused 2 at 0");
-    says(&Chart::steps(300).bytes(), "refused 5 at 0");
+    says(&Chart::steps(NODES + 44).bytes(), "refused 5 at 0");
 }
 
 #[test]
-fn what_stands_past_the_2057_bytes_changes_nothing() {
-    let mut bytes = longest(5_000);
-    bytes[2_057..].fill(255);
+fn what_stands_past_the_bytes_that_are_taken_changes_nothing() {
+    let mut bytes = longest(2 * INPUT);
+    bytes[INPUT..].fill(255);
     says(&bytes, "refused 8 at 0");
 }
 
@@ -63,7 +74,7 @@ fn an_input_that_comes_in_single_bytes_is_read_whole() {
 
 #[test]
 fn an_input_that_comes_in_uneven_parts_is_read_whole() {
-    each(&[2_056, 2_057], |&size| {
+    each(&[LONGEST, INPUT], |&size| {
         let mut child = start(command());
         for part in longest(size).chunks(97) {
             sleep(Duration::from_millis(2));
@@ -86,10 +97,10 @@ fn an_input_that_is_not_open_is_no_bytes() {
 }
 
 #[test]
-fn the_program_answers_after_2057_bytes_though_the_input_stays_open() {
+fn the_program_answers_after_the_bytes_that_it_takes_though_the_input_stays_open() {
     let mut child = start(command());
-    hand(&mut child, &longest(2_057));
-    assert!(ends(&mut child), "the program waits for more than 2,057 bytes");
+    hand(&mut child, &longest(INPUT));
+    assert!(ends(&mut child), "the program waits for more than {INPUT} bytes");
     assert_eq!(finish(child), "refused 8 at 0\n");
 }
 

@@ -3,6 +3,7 @@
 use charts::Chart;
 use reports::each::each;
 use reports::hold::{accepts, says};
+use second::limits::{LONGEST, NODES};
 
 #[test]
 fn no_bytes_give_1() {
@@ -48,10 +49,10 @@ fn a_count_one_off_the_records_gives_8() {
 
 #[test]
 fn the_longest_chart_passes_and_one_byte_off_gives_8() {
-    let longest = Chart::steps(256).bytes();
-    assert_eq!(longest.len(), 2_056);
-    accepts(&longest, 256, 0);
-    says(&longest[..2_055], "refused 8 at 0");
+    let longest = Chart::steps(NODES).bytes();
+    assert_eq!(longest.len(), LONGEST);
+    accepts(&longest, NODES, 0);
+    says(&longest[..LONGEST - 1], "refused 8 at 0");
     let mut longer = longest.clone();
     longer.push(0);
     says(&longer, "refused 8 at 0");

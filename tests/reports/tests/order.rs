@@ -3,14 +3,19 @@
 use charts::{Chart, Record};
 use reports::each::each;
 use reports::hold::{accepts, says};
+use second::limits::{BLOCKS, NODES};
 
 /// Every fault from 2 to 10, each refusal's number being a bit.
 const ALL: u32 = 0b111_1111_1100;
 
-/// A chart of 80 nodes with the faults of such a set.
+/// The nodes of a chart that has too many blocks, and the one of them that breaks a rule.
+const MANY: usize = BLOCKS + 16;
+const BROKEN: usize = MANY - 3;
+
+/// A chart of many nodes with the faults of such a set.
 fn faulty(faults: u32) -> Vec<u8> {
     let has = |number: u32| faults & 1 << number != 0;
-    let mut chart = Chart::straight(&vec![0; 80]);
+    let mut chart = Chart::straight(&[0; MANY]);
     if has(2) {
         chart.header.edition = 2;
     }
@@ -21,7 +26,7 @@ fn faulty(faults: u32) -> Vec<u8> {
         chart.header.start = 2;
     }
     if has(5) {
-        chart.header.nodes = 257;
+        chart.header.nodes = NODES as u64 + 1;
     }
     if has(6) {
         chart.header.entry = 4095;
@@ -30,10 +35,10 @@ fn faulty(faults: u32) -> Vec<u8> {
         chart.header.tail = 1;
     }
     if has(9) {
-        chart.records[77].spare = 1;
+        chart.records[BROKEN].spare = 1;
     }
     if has(10) {
-        for node in 0..80 {
+        for node in 0..MANY {
             chart.records[node].address = 16 * node as u64;
         }
     }
@@ -47,8 +52,8 @@ fn faulty(faults: u32) -> Vec<u8> {
 /// Holds a set of faults to the answer of the first.
 fn first_of(faults: u32) {
     let line = match faults.trailing_zeros() {
-        9 => "refused 9 at 77".to_string(),
-        10 => "refused 10 at 64".to_string(),
+        9 => format!("refused 9 at {BROKEN}"),
+        10 => format!("refused 10 at {BLOCKS}"),
         number => format!("refused {number} at 0"),
     };
     says(&faulty(faults), &line);
@@ -56,7 +61,7 @@ fn first_of(faults: u32) {
 
 #[test]
 fn the_chart_without_faults_passes() {
-    accepts(&faulty(0), 80, 1);
+    accepts(&faulty(0), MANY, 1);
 }
 
 #[test]
@@ -82,9 +87,9 @@ fn fewer_than_8_bytes_give_1_before_any_other_fault() {
 
 #[test]
 fn a_broken_record_goes_before_too_many_blocks_wherever_it_stands() {
-    for node in [0, 63, 64, 65, 79] {
-        let mut chart = Chart::straight(&(0..80).map(|block| block * 16).collect::<Vec<u64>>());
-        says(&chart.bytes(), "refused 10 at 64");
+    for node in [0, BLOCKS - 1, BLOCKS, BLOCKS + 1, MANY - 1] {
+        let mut chart = Chart::straight(&(0..MANY as u64).map(|block| block * 16).collect::<Vec<u64>>());
+        says(&chart.bytes(), &format!("refused 10 at {BLOCKS}"));
         chart.records[node] = Record {
             kind: 3,
             ..Record::step()

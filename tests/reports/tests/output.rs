@@ -3,6 +3,7 @@
 use charts::Chart;
 use reports::hold::same;
 use reports::program::{command, command_after, ends, finish, hand, runs, start};
+use second::limits::NODES;
 use second::report::report;
 use std::fs::{self, File};
 use std::io::{pipe, Read, Write};
@@ -20,7 +21,7 @@ fn both_ways() -> [Command; 2] {
 
 /// A chart with a long report.
 fn chart() -> Vec<u8> {
-    Chart::steps(256).bytes()
+    Chart::steps(NODES).bytes()
 }
 
 /// Hands the chart over and closes the input.

@@ -3,10 +3,11 @@
 use charts::{Chart, Record};
 use reports::each::each;
 use reports::hold::{agrees, says};
+use second::limits::{BLOCKS, NODES};
 
-/// So many reads of 64 blocks in turn, each leading to the node below; the last is the entry.
+/// So many reads of the most blocks in turn, each leading to the node below; the last is the entry.
 fn backward(nodes: usize) -> Chart {
-    let addresses: Vec<u64> = (0..nodes as u64).map(|node| node % 64 * 16).collect();
+    let addresses: Vec<u64> = (0..nodes as u64).map(|node| node % BLOCKS as u64 * 16).collect();
     let mut chart = Chart::reads(&addresses);
     for node in 1..nodes {
         chart.records[node] = chart.records[node].to(node as u64 - 1);
@@ -29,7 +30,7 @@ fn a_change_goes_backward_one_node_in_a_pass() {
 
 #[test]
 fn backward_chains_of_any_length_agree() {
-    each(&[1, 2, 63, 64, 65, 255, 256], |&nodes| {
+    each(&[1, 2, BLOCKS - 1, BLOCKS, BLOCKS + 1, NODES - 1, NODES], |&nodes| {
         agrees(&backward(nodes).shaped(0, 8, 1).bytes());
         agrees(&backward(nodes).shaped(2, 4, 0).bytes());
     });
@@ -38,8 +39,8 @@ fn backward_chains_of_any_length_agree() {
 #[test]
 fn a_backward_ring_agrees() {
     each(&[(0, 8), (2, 8), (6, 1)], |&(sets, ways)| {
-        let mut chart = backward(256).shaped(sets, ways, 1);
-        chart.records[0] = chart.records[0].to(255);
+        let mut chart = backward(NODES).shaped(sets, ways, 1);
+        chart.records[0] = chart.records[0].to(NODES as u64 - 1);
         chart.records[128] = chart.records[128].to(200);
         agrees(&chart.bytes());
     });

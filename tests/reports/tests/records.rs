@@ -3,6 +3,7 @@
 use charts::{Chart, Record};
 use reports::each::each;
 use reports::hold::{accepts, agrees, says};
+use second::limits;
 
 const NODES: usize = 5;
 
@@ -87,7 +88,7 @@ fn an_arrow_to_the_last_node_passes_and_to_n_gives_9() {
 
 #[test]
 fn arrows_are_held_to_n_in_the_smallest_and_the_largest_chart() {
-    for nodes in [1, 256] {
+    for nodes in [1, limits::NODES] {
         let mut chart = Chart::steps(nodes);
         let last = nodes - 1;
         chart.records[last] = Record::step().to(last as u64);
@@ -144,12 +145,12 @@ fn each_spare_bit_gives_9() {
 
 #[test]
 fn the_place_is_the_first_node_at_fault() {
-    let mut chart = Chart::steps(256);
+    let mut chart = Chart::steps(limits::NODES);
     let broken = Record {
         kind: 3,
         ..Record::step()
     };
-    for node in [255, 200, 3, 1, 0] {
+    for node in [limits::NODES - 1, 200, 3, 1, 0] {
         chart.records[node] = broken;
         says(&chart.bytes(), &format!("refused 9 at {node}"));
     }

@@ -3,21 +3,23 @@
 use charts::{Chart, Record};
 use reports::hold::same;
 use reports::program::{answer, command_after};
+use second::limits::{BLOCKS, NODES};
+use second::report::INPUT;
 
 /// Sets the stack of the program, and that of the emulator's guest, which has a size of its own.
 const ONE_MIB: &str = "ulimit -s 1024; export QEMU_STACK_SIZE=1048576";
 
 #[test]
 fn a_stack_of_1_mib_is_enough() {
-    let addresses: Vec<u64> = (0..256).map(|node| node % 64 * 16).collect();
+    let addresses: Vec<u64> = (0..NODES as u64).map(|node| node % BLOCKS as u64 * 16).collect();
     let mut looping = Chart::straight(&addresses).shaped(0, 8, 0);
-    looping.records[255] = Record::read(addresses[255]).to(0).to(128);
+    looping.records[NODES - 1] = Record::read(addresses[NODES - 1]).to(0).to(NODES as u64 / 2);
     let mut backward = Chart::reads(&addresses).shaped(3, 8, 1);
-    for node in 1..256 {
+    for node in 1..NODES {
         backward.records[node] = backward.records[node].to(node as u64 - 1);
     }
-    backward.header.entry = 255;
-    for chart in [looping.bytes(), backward.bytes(), vec![255; 3_000], Vec::new()] {
+    backward.header.entry = NODES as u64 - 1;
+    for chart in [looping.bytes(), backward.bytes(), vec![255; INPUT + 1_000], Vec::new()] {
         same(&answer(command_after(ONE_MIB), &chart), &chart);
     }
 }

@@ -4,7 +4,7 @@ use reports::folder::{chart, report, rows, text, words};
 use second::cache::{cost, Cache, Costs};
 use second::chart::Chart;
 use second::lending::Lending;
-use second::report::ALLOWANCE;
+use second::limits::PASSES;
 use second::totals::{Bounds, Totals};
 use std::iter::repeat;
 
@@ -24,7 +24,7 @@ fn totals(name: &str) -> Totals {
         visits[node] += 1;
     }
     let mut lending = Lending::largest();
-    lending.analyse(&bytes, ALLOWANCE);
+    lending.analyse(&bytes, PASSES);
     let bounds = Bounds {
         floors: &visits,
         ceilings: &visits,

@@ -2,6 +2,7 @@
 
 use crate::geometry::Geometry;
 use crate::header::Header;
+use crate::limits::BLOCKS;
 use crate::record::{Arrows, Record};
 use crate::refusal::Refusal;
 
@@ -66,12 +67,12 @@ fn records(bytes: &[u8], nodes: usize) -> Result<Vec<Record>, Refusal> {
 }
 
 fn blocks(records: &[Record], geometry: &Geometry) -> Result<Vec<u32>, Refusal> {
-    let mut blocks = Vec::with_capacity(Geometry::BLOCKS);
+    let mut blocks = Vec::with_capacity(BLOCKS);
     for (node, record) in records.iter().enumerate() {
         let Some(address) = record.address else { continue };
         let block = geometry.block_of(address);
         if let Err(place) = blocks.binary_search(&block) {
-            if blocks.len() == Geometry::BLOCKS {
+            if blocks.len() == BLOCKS {
                 return Err(Refusal::at(10, node));
             }
             blocks.insert(place, block);

@@ -1,3 +1,5 @@
+use crate::limits::WAYS;
+
 /// The shape of a cache: lines of 2^`line` bytes, 2^`sets` sets, `ways` blocks in a set.
 #[derive(Clone, Copy, Debug, PartialEq, Eq)]
 pub struct Geometry {
@@ -7,12 +9,8 @@ pub struct Geometry {
 }
 
 impl Geometry {
-    pub const NODES: usize = 256;
-    pub const BLOCKS: usize = 64;
-    pub const WAYS: usize = 8;
-
     pub fn allowed(&self) -> bool {
-        (2..=8).contains(&self.line) && self.sets <= 8 && (1..=Geometry::WAYS).contains(&usize::from(self.ways))
+        (2..=8).contains(&self.line) && self.sets <= 8 && (1..=WAYS).contains(&usize::from(self.ways))
     }
 
     pub fn block_of(&self, address: u32) -> u32 {

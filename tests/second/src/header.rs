@@ -2,6 +2,7 @@
 
 use crate::fields::Fields;
 use crate::geometry::Geometry;
+use crate::limits::{length, NODES};
 use crate::refusal::Refusal;
 
 /// What the cache holds before a walk.
@@ -49,7 +50,7 @@ impl Header {
             1 => Start::Empty,
             _ => return Err(Refusal::of(4)),
         };
-        if !(1..=Geometry::NODES).contains(&nodes) {
+        if !(1..=NODES).contains(&nodes) {
             return Err(Refusal::of(5));
         }
         if entry >= nodes {
@@ -58,7 +59,7 @@ impl Header {
         if spare != 0 || tail != 0 {
             return Err(Refusal::of(7));
         }
-        if chart.len() != 8 + 8 * nodes {
+        if chart.len() != length(nodes) {
             return Err(Refusal::of(8));
         }
         Ok(Header {

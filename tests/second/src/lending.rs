@@ -1,8 +1,8 @@
 use crate::analysis::{analyse, Analysed, Buffers};
 use crate::cache::Costs;
 use crate::checker::check;
-use crate::geometry::Geometry;
 use crate::lent::Lent;
+use crate::limits::{BLOCKS, NODES};
 use crate::refusal::Refusal;
 use crate::totals::{totals, Bounds, Totals};
 
@@ -30,7 +30,7 @@ impl Lending {
 
     /// Zeros, with room for the largest chart.
     pub fn largest() -> Lending {
-        Lending::of(Geometry::BLOCKS, Geometry::NODES, 0)
+        Lending::of(BLOCKS, NODES, 0)
     }
 
     pub fn analyse(&mut self, chart: &[u8], allowance: usize) -> Analysed {

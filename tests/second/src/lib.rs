@@ -12,6 +12,7 @@ pub mod geometry;
 pub mod header;
 pub mod lending;
 pub mod lent;
+pub mod limits;
 pub mod passes;
 pub mod record;
 pub mod refusal;

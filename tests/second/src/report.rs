@@ -1,17 +1,14 @@
 //! What the program prints for an input.
 
 use crate::analysis::Analysed;
-use crate::geometry::Geometry;
 use crate::header::Header;
 use crate::lending::Lending;
+use crate::limits::{LONGEST, PASSES};
 use crate::refusal::Refusal;
 use std::fmt::Write;
 
 /// The longest chart and one byte more: a longer input gets the answer for these.
-pub const INPUT: usize = 8 + 8 * Geometry::NODES + 1;
-
-/// No accepted chart needs more passes.
-pub const ALLOWANCE: usize = Geometry::NODES * (1 + 2 * Geometry::BLOCKS * Geometry::WAYS) + 1;
+pub const INPUT: usize = LONGEST + 1;
 
 /// The word of each class by its number.
 const WORDS: [&str; 5] = ["unreached", "hit", "miss", "unsure", "none"];
@@ -19,7 +16,7 @@ const WORDS: [&str; 5] = ["unreached", "hit", "miss", "unsure", "none"];
 pub fn report(input: &[u8]) -> String {
     let input = &input[..input.len().min(INPUT)];
     let mut lending = Lending::largest();
-    match lending.analyse(input, ALLOWANCE) {
+    match lending.analyse(input, PASSES) {
         Analysed::Settled { passes, blocks } => {
             let nodes = Header::read(input).expect("the analysis accepted it").nodes;
             settled(nodes, blocks, passes, &lending.classes[..nodes])

@@ -50,7 +50,7 @@ fn refuse(chart: &Chart, lent: Lent, costs: Costs, bounds: Bounds) -> Result<(),
     Ok(())
 }
 
-/// What the marked references add. The largest sum is 256 times the square of 65,535.
+/// What the marked references add. The largest sum is that of the most nodes, times the square of 65,535.
 fn sums(chart: &Chart, lent: Lent, costs: Costs, bounds: Bounds) -> Totals {
     let mut totals = Totals { low: 0, high: 0 };
     for node in 0..chart.nodes.len() {

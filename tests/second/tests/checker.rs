@@ -5,8 +5,8 @@ use charts::random_charts::whole;
 use charts::{Chart, Record};
 use second::analysis::Analysed;
 use second::lending::Lending;
+use second::limits::PASSES;
 use second::refusal::Refusal;
-use second::report::ALLOWANCE;
 
 /// The sample with one node more that no walk reaches: two blocks, 4 nodes.
 fn chart() -> Vec<u8> {
@@ -19,7 +19,7 @@ fn chart() -> Vec<u8> {
 /// The table of the analysis.
 fn settled(chart: &[u8]) -> Lending {
     let mut lending = Lending::largest();
-    assert!(matches!(lending.analyse(chart, ALLOWANCE), Analysed::Settled { .. }));
+    assert!(matches!(lending.analyse(chart, PASSES), Analysed::Settled { .. }));
     lending
 }
 
@@ -126,7 +126,7 @@ fn the_analysis_of_a_random_chart_passes_and_no_single_age_can_be_tighter() {
         let chart = whole(&mut random);
         let (bytes, ways) = (chart.bytes(), chart.header.ways as u8);
         let mut lending = Lending::largest();
-        let Analysed::Settled { blocks, .. } = lending.analyse(&bytes, ALLOWANCE) else {
+        let Analysed::Settled { blocks, .. } = lending.analyse(&bytes, PASSES) else {
             continue;
         };
         assert_eq!(lending.check(&bytes), Ok(true), "seed {seed}");

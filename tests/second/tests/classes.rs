@@ -2,7 +2,7 @@
 
 use charts::Chart;
 use second::lending::Lending;
-use second::report::ALLOWANCE;
+use second::limits::PASSES;
 
 const UNKNOWN: u64 = 0;
 const EMPTY: u64 = 1;
@@ -11,7 +11,7 @@ const EMPTY: u64 = 1;
 fn classes(addresses: [u64; 3], sets: u64, ways: u64, start: u64) -> Vec<u8> {
     let mut lending = Lending::largest();
     let chart = Chart::straight(&addresses).shaped(sets, ways, start);
-    lending.analyse(&chart.bytes(), ALLOWANCE);
+    lending.analyse(&chart.bytes(), PASSES);
     lending.classes[..3].to_vec()
 }
 

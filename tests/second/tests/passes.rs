@@ -3,19 +3,19 @@
 use charts::{Chart, Record};
 use second::analysis::Analysed;
 use second::lending::Lending;
-use second::report::ALLOWANCE;
+use second::limits::{LONGEST, PASSES};
 
 /// The number of passes of a chart that settles.
 fn passes(chart: &Chart) -> usize {
-    match Lending::largest().analyse(&chart.bytes(), ALLOWANCE) {
+    match Lending::largest().analyse(&chart.bytes(), PASSES) {
         Analysed::Settled { passes, .. } => passes,
         other => panic!("{other:?}"),
     }
 }
 
 #[test]
-fn the_allowance_is_the_bound_of_the_largest_chart() {
-    assert_eq!(ALLOWANCE, 262_401);
+fn what_follows_from_the_limits_is_what_document_01_names() {
+    assert_eq!((LONGEST, PASSES), (2_056, 262_401));
 }
 
 #[test]

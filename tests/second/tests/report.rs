@@ -1,7 +1,8 @@
 //! Document 01's chart and its report, whole, and its soundings of what is refused.
 
 use charts::{Chart, Record};
-use second::report::{report, INPUT};
+use second::limits::{BLOCKS, NODES};
+use second::report::report;
 
 #[test]
 fn the_sample_has_the_report_of_document_01() {
@@ -24,10 +25,14 @@ fn the_other_words_are_miss_and_unreached() {
 }
 
 #[test]
-fn sixty_four_blocks_pass_and_65_are_refused() {
-    let addresses: Vec<u64> = (0..65).map(|block| block * 16).collect();
-    assert!(report(&Chart::straight(&addresses[..64]).bytes()).starts_with("nodes 64 blocks 64 passes 2\n"));
-    assert_eq!(report(&Chart::straight(&addresses).bytes()), "refused 10 at 64\n");
+fn the_most_blocks_pass_and_one_more_is_refused() {
+    let addresses: Vec<u64> = (0..=BLOCKS as u64).map(|block| block * 16).collect();
+    let begins = format!("nodes {BLOCKS} blocks {BLOCKS} passes 2\n");
+    assert!(report(&Chart::straight(&addresses[..BLOCKS]).bytes()).starts_with(&begins));
+    assert_eq!(
+        report(&Chart::straight(&addresses).bytes()),
+        format!("refused 10 at {BLOCKS}\n")
+    );
 }
 
 #[test]
@@ -55,11 +60,11 @@ fn an_arrow_to_n_gives_9_and_to_n_less_1_passes() {
 }
 
 #[test]
-fn a_longer_input_gets_the_answer_for_its_first_2057_bytes() {
-    assert_eq!(INPUT, 2_057);
-    let longest = Chart::steps(256).bytes();
-    assert!(report(&longest).starts_with("nodes 256 blocks 0 passes 1\n0 none\n1 unreached\n"));
+fn an_input_longer_than_the_longest_chart_is_too_long() {
+    let longest = Chart::steps(NODES).bytes();
+    let begins = format!("nodes {NODES} blocks 0 passes 1\n0 none\n1 unreached\n");
+    assert!(report(&longest).starts_with(&begins));
     let mut longer = longest;
-    longer.resize(5_000, 255);
+    longer.resize(longer.len() + 3_000, 255);
     assert_eq!(report(&longer), "refused 8 at 0\n");
 }

@@ -4,7 +4,7 @@ use charts::{Chart, Record};
 use second::analysis::Analysed;
 use second::cache::Costs;
 use second::lending::Lending;
-use second::report::ALLOWANCE;
+use second::limits::{NODES, PASSES};
 use second::totals::{Bounds, Totals};
 
 const COSTS: Costs = Costs { hit: 1, miss: 10 };
@@ -12,7 +12,7 @@ const COSTS: Costs = Costs { hit: 1, miss: 10 };
 /// The table of the analysis.
 fn settled(chart: &[u8]) -> Lending {
     let mut lending = Lending::largest();
-    assert!(matches!(lending.analyse(chart, ALLOWANCE), Analysed::Settled { .. }));
+    assert!(matches!(lending.analyse(chart, PASSES), Analysed::Settled { .. }));
     lending
 }
 
@@ -150,12 +150,11 @@ fn the_largest_sum_is_exact() {
         hit: 65_535,
         miss: 65_535,
     };
-    let most = [65_535; 256];
-    let largest = 1_099_478_073_600;
-    assert_eq!(largest, 256 * 65_535 * 65_535);
-    let hits = Chart::straight(&[0; 256]).bytes();
+    let most = [65_535; NODES];
+    let largest = NODES as u64 * 65_535 * 65_535;
+    let hits = Chart::straight(&[0; NODES]).bytes();
     assert_eq!(totals(&hits, &settled(&hits), costs, &most, &most), (largest, largest));
-    let other: Vec<u64> = (0..256).map(|node| node % 2 * 16).collect();
+    let other: Vec<u64> = (0..NODES as u64).map(|node| node % 2 * 16).collect();
     let misses = Chart::straight(&other).shaped(0, 1, 1).bytes();
     let costs = Costs { hit: 0, miss: 65_535 };
     assert_eq!(

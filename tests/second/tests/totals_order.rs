@@ -7,6 +7,7 @@ use charts::random_charts::{damaged, whole};
 use charts::Chart;
 use question::{after, sample, Question};
 use second::chart;
+use second::limits::BLOCKS;
 use second::refusal::Refusal;
 use second::totals::Totals;
 
@@ -34,7 +35,7 @@ fn refused_charts() -> Vec<(Refusal, Vec<u8>)> {
     };
     let mut unruly = sample();
     unruly.records[4].spare = 1;
-    let many: Vec<u64> = (0..66).map(|block| block * 16).collect();
+    let many: Vec<u64> = (0..BLOCKS as u64 + 2).map(|block| block * 16).collect();
     vec![
         (Refusal::of(1), sample().bytes()[..7].to_vec()),
         (Refusal::of(2), header(|header| header.edition = 2)),
@@ -45,7 +46,7 @@ fn refused_charts() -> Vec<(Refusal, Vec<u8>)> {
         (Refusal::of(7), header(|header| header.tail = 1)),
         (Refusal::of(8), header(|header| header.nodes = 7)),
         (Refusal::at(9, 4), unruly.bytes()),
-        (Refusal::at(10, 64), Chart::reads(&many).bytes()),
+        (Refusal::at(10, BLOCKS), Chart::reads(&many).bytes()),
     ]
 }
 

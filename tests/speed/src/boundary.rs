@@ -3,7 +3,7 @@
 use second::analysis::Analysed;
 use second::lending::Lending;
 use second::refusal::Refusal;
-use veilbuzz::{Buffers, Settled};
+use veilbuzz::{Buffers, Settled, Unsettled};
 
 pub fn analyse(lent: &mut Lending, chart: &[u8], allowance: usize) -> Analysed {
     let buffers = Buffers {
@@ -15,11 +15,8 @@ pub fn analyse(lent: &mut Lending, chart: &[u8], allowance: usize) -> Analysed {
     };
     match veilbuzz::analyse(chart, allowance, buffers) {
         Ok(Settled { passes, blocks }) => Analysed::Settled { passes, blocks },
-        Err(refusal) if refusal.number == 12 => Analysed::Unsettled {
-            allowance: refusal.passes,
-            blocks: refusal.blocks,
-        },
-        Err(refusal) => Analysed::Refused(Refusal {
+        Err(Unsettled::Spent { allowance, blocks }) => Analysed::Unsettled { allowance, blocks },
+        Err(Unsettled::Refused(refusal)) => Analysed::Refused(Refusal {
             number: refusal.number,
             place: refusal.place,
         }),

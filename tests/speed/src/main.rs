@@ -5,7 +5,7 @@
 //!     speed second backward 256 64 3           the second program's
 
 use second::lending::Lending;
-use second::report::ALLOWANCE;
+use second::limits::PASSES;
 use speed::kinds::Kind;
 use speed::measures::{ratio, Case, Measure};
 use speed::plot;
@@ -67,7 +67,7 @@ fn alone(whose: &str, kind: &str, nodes: usize, blocks: usize, times: usize) {
         cleared: false,
     };
     for _ in 0..times {
-        run.once(ALLOWANCE);
+        run.once(PASSES);
     }
 }
 

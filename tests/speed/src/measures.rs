@@ -5,7 +5,7 @@ use crate::runs::{Run, OURS, SECOND};
 use crate::timing::best;
 use second::analysis::Analysed;
 use second::lending::Lending;
-use second::report::ALLOWANCE;
+use second::limits::{BLOCKS, NODES, PASSES};
 
 #[derive(Clone, Copy)]
 pub struct Case {
@@ -28,7 +28,7 @@ pub struct Measure {
 
 impl Case {
     /// A chart of 16 nodes has no more than 16 blocks.
-    const SIZES: [(usize, usize); 4] = [(256, 64), (256, 8), (16, 16), (16, 8)];
+    const SIZES: [(usize, usize); 4] = [(NODES, BLOCKS), (NODES, 8), (16, 16), (16, 8)];
 
     pub fn all() -> impl Iterator<Item = Case> {
         Case::SIZES.into_iter().flat_map(|(nodes, blocks)| {
@@ -52,15 +52,15 @@ impl Case {
             lent: Lending::of(self.blocks, self.nodes, 0),
             cleared: self.cleared,
         });
-        let answer = ours.once(ALLOWANCE);
-        assert_eq!(answer, second.once(ALLOWANCE));
+        let answer = ours.once(PASSES);
+        assert_eq!(answer, second.once(PASSES));
         assert_eq!(ours.lent, second.lent);
         let Analysed::Settled { passes, .. } = answer else {
             panic!("the chart is not settled: {answer:?}");
         };
         let mut times =
             |allowance| best(|| ours.timed(allowance), || second.timed(allowance)).map(|time| time.as_secs_f64() * 1e6);
-        let whole = times(ALLOWANCE);
+        let whole = times(PASSES);
         let rest = times(0);
         Measure {
             passes,

@@ -4,19 +4,15 @@ use Rattle.rows.proofs.Growing.{must-grows, must-stays}
 use Rattle.rows.proofs.must_age.Statement.{statement}
 use Rattle.rows.proofs.must_age.Tie as tie
 
--- src/lib.rt:29:20
 add-result : tie.Need-add-result
 add-result c = search needs
 
--- src/lib.rt:29:13
 returns : tie.Need-returns
 returns c = rw (c .before .if1 .taken) (sym (must-grows _ _ (c .if2 .taken)))
 
--- src/lib.rt:24:1
 returns-2 : tie.Need-returns-2
 returns-2 c = rw (c .before .if1 .taken) (sym (must-stays _ _ (c .if2 .left)))
 
--- src/lib.rt:24:1
 returns-3 : tie.Need-returns-3
 returns-3 c = search needs
 

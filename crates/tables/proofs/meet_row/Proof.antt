@@ -4,64 +4,50 @@ use Rattle.tables.specs.Inner.{takenInto, joinedInto}
 use Rattle.tables.proofs.meet_row.Statement.{statement}
 use Rattle.tables.proofs.meet_row.Tie as tie
 
--- src/lib.rt:123:16
 mul-base : tie.Need-mul-base
 mul-base c = search needs
 
--- src/lib.rt:124:8
 slice-read-if1 : tie.Need-slice-read-if1
 slice-read-if1 c = search needs
 
--- src/lib.rt:125:9
 put-ages-requires : tie.Need-put-ages-requires
 put-ages-requires c κs = search needs
 
--- src/lib.rt:126:9
 put-ages-requires-2 : tie.Need-put-ages-requires-2
 put-ages-requires-2 c κs = search needs
 
--- src/lib.rt:127:9
 slice-write-marks : tie.Need-slice-write-marks
 slice-write-marks c = search needs
 
--- src/lib.rt:128:9
 same-length : tie.Need-same-length
 same-length c = search needs
 
--- src/lib.rt:128:9
 same-length-2 : tie.Need-same-length-2
 same-length-2 c = search needs
 
--- src/lib.rt:128:9
 same-length-3 : tie.Need-same-length-3
 same-length-3 c = search needs
 
--- src/lib.rt:128:9
 returns : tie.Need-returns
 unfolding takenInto
 returns c = rw (eq-eqb _ _ (c .before .before .before .before .before .before .before .before .if1 .taken), c .before .before .before .before .before .before .put-ages .ensures, c .before .before .put-ages2 .ensures)
 
--- src/lib.rt:130:9
 put-larger-requires : tie.Need-put-larger-requires
 put-larger-requires c κs = search needs
 
--- src/lib.rt:131:5
 put-smaller-requires : tie.Need-put-smaller-requires
 put-smaller-requires c κs = search needs
 
--- src/lib.rt:109:1
 same-length-4 : tie.Need-same-length-4
 same-length-4 c = search needs
 
--- src/lib.rt:109:1
 same-length-5 : tie.Need-same-length-5
 same-length-5 c = search needs
 
--- src/lib.rt:109:1
 returns-2 : tie.Need-returns-2
 unfolding joinedInto
 returns-2 c =
-    rw (ne-eqb _ _ (c .before .before .before .before .before .before .before .before .if1 .left), c .before .before .before .before .before .before .put-larger .ensures .0, c .before .before .put-smaller .ensures .0, c .before .before .put-smaller .ensures .1, c .before .before .before .before .before .before .put-larger .ensures .1)
+    rw (ne-eqb _ _ (c .before .before .before .before .before .before .before .before .if1 .left), c .before .before .before .before .before .before .put-larger .ensures .row, c .before .before .put-smaller .ensures .row, c .before .before .put-smaller .ensures .moved, c .before .before .before .before .before .before .put-larger .ensures .moved)
 
 pub meet-row-spec : {M : Type 1} → statement M
 meet-row-spec =

@@ -7,6 +7,7 @@ use compare::features::PASSES;
 use compare::group::Group;
 use compare::lent::{used, Lent};
 use compare::raw;
+use second::limits::{self, BLOCKS, NODES};
 use veilbuzz::Analysis;
 
 /// A line that runs against the numbers, with a way back: a pass carries a change one node far.
@@ -27,7 +28,7 @@ fn sweep(group: &mut Group, chart: &[u8]) {
     };
     group.hold(chart, |random, tally, chart| {
         tally.at(PASSES, passes);
-        let above = [veilbuzz::PASSES, 1 << 32, usize::MAX / 2, usize::MAX - 1, usize::MAX];
+        let above = [limits::PASSES, 1 << 32, usize::MAX / 2, usize::MAX - 1, usize::MAX];
         for allowance in (0..=passes + 2).chain(above) {
             let lent = Lent::of(random, used(header.nodes, header.blocks));
             _ = ask::analyse(tally, chart, allowance, &lent)?;
@@ -60,16 +61,16 @@ fn every_allowance_of_charts_that_take_many_passes() {
 #[test]
 fn large_charts_that_take_many_passes() {
     let mut group = Group::of("many passes");
-    for nodes in [100, 255, 256] {
-        for blocks in [1, 9, 63, 64] {
+    for nodes in [100, NODES - 1, NODES] {
+        for blocks in [1, 9, BLOCKS - 1, BLOCKS] {
             for (sets, start) in [(0, 0), (0, 1), (2, 0), (2, 1)] {
-                group.trial(&backward(nodes, blocks, sets, start).bytes());
+                group.trial(&backward(nodes as u64, blocks as u64, sets, start).bytes());
             }
         }
     }
-    let most = (0..=veilbuzz::PASSES)
+    let most = (0..=limits::PASSES)
         .rev()
         .find(|&passes| group.tally.count(PASSES, passes) > 0);
-    assert!(most > Some(256), "the most passes were {most:?}");
+    assert!(most > Some(NODES), "the most passes were {most:?}");
     group.end();
 }

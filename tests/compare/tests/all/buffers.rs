@@ -9,7 +9,10 @@ use compare::guarded::{short, Guarded};
 use compare::lent::{used, Lent};
 use compare::raw;
 use compare::table::{LentTable, Table};
-use veilbuzz::{Analysis, Costs, PASSES};
+use second::limits::{BLOCKS, PASSES};
+use veilbuzz::{Analysis, Costs};
+
+const MOST: u64 = BLOCKS as u64;
 
 /// None, one too few, just enough, one more, many more.
 fn around(used: usize) -> [usize; 5] {
@@ -35,7 +38,7 @@ fn charts(group: &mut Group) -> Vec<Vec<u8>> {
         Chart::steps(3).bytes(),
         Chart::reads(&[0]).bytes(),
         of_blocks(random, 7, 3).bytes(),
-        of_blocks(random, 70, 64).bytes(),
+        of_blocks(random, MOST + 6, MOST).bytes(),
     ]
 }
 

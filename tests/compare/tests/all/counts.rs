@@ -5,31 +5,34 @@ use charts::random_charts::of_nodes;
 use compare::ask::READ;
 use compare::features::{BLOCKS, NODES};
 use compare::group::Group;
+use second::limits;
+
+const MOST: u64 = limits::BLOCKS as u64;
 
 #[test]
 fn every_number_of_nodes() {
     let mut group = Group::of("every number of nodes");
-    for nodes in 1..=256 {
+    for nodes in 1..=limits::NODES {
         let before = group.tally.count(NODES, nodes);
         while group.tally.count(NODES, nodes) < before + 3 {
             let chart = of_nodes(&mut group.random, nodes as u64).bytes();
             group.trial(&chart);
         }
     }
-    group.end().expect_each(NODES, 1..=256, 3);
+    group.end().expect_each(NODES, 1..=limits::NODES, 3);
 }
 
 #[test]
 fn every_number_of_blocks() {
     let mut group = Group::of("every number of blocks");
-    for blocks in 0..=90 {
+    for blocks in 0..=MOST + 26 {
         for _ in 0..3 {
-            let nodes = group.random.within(u64::max(blocks, 1), 130);
+            let nodes = group.random.within(u64::max(blocks, 1), 2 * MOST + 2);
             let chart = of_blocks(&mut group.random, nodes, blocks).bytes();
             group.trial(&chart);
         }
     }
     let tally = group.end();
-    tally.expect_each(BLOCKS, 0..=64, 3);
+    tally.expect_each(BLOCKS, 0..=limits::BLOCKS, 3);
     tally.expect_each(READ, 10..=10, 3 * 26);
 }

@@ -3,6 +3,7 @@
 use charts::{Chart, Record};
 use compare::ask::READ;
 use compare::group::Group;
+use second::limits;
 
 /// A chart in the making: its fields, and what is done to its bytes at the end.
 #[derive(Clone)]
@@ -35,7 +36,7 @@ const FAULTS: [Fault; 22] = [
     |draft| draft.chart.header.ways = 9,
     |draft| draft.chart.header.start = 2,
     |draft| draft.chart.header.nodes = 0,
-    |draft| draft.chart.header.nodes = 257,
+    |draft| draft.chart.header.nodes = limits::NODES as u64 + 1,
     |draft| draft.chart.header.entry = draft.chart.header.nodes,
     |draft| draft.chart.header.spare = 1,
     |draft| draft.chart.header.tail = 0x80,
@@ -44,22 +45,23 @@ const FAULTS: [Fault; 22] = [
     |draft| draft.chart.records[0].spare = 1,
     |draft| draft.chart.records[3].kind = 3,
     |draft| draft.chart.records[5].outs = 3,
-    |draft| draft.chart.records[70].first = draft.chart.header.nodes,
-    |draft| reads(draft, 65),
-    |draft| reads(draft, 70),
+    |draft| draft.chart.records[limits::BLOCKS + 6].first = draft.chart.header.nodes,
+    |draft| reads(draft, limits::BLOCKS + 1),
+    |draft| reads(draft, limits::BLOCKS + 6),
 ];
 
 /// Has the first nodes read a block each.
-fn reads(draft: &mut Draft, blocks: u64) {
+fn reads(draft: &mut Draft, blocks: usize) {
     for block in 0..blocks {
-        let record = &mut draft.chart.records[block as usize];
-        (record.kind, record.address) = (1, block << 8);
+        let record = &mut draft.chart.records[block];
+        (record.kind, record.address) = (1, (block as u64) << 8);
     }
 }
 
-/// 72 nodes, each a bare step that leads to the next.
+/// Some nodes more than a chart has blocks, each a bare step that leads to the next.
 fn sound() -> Draft {
-    let records = (0..72).map(|node| Record::step().to((node + 1) % 72)).collect();
+    let nodes = limits::BLOCKS as u64 + 8;
+    let records = (0..nodes).map(|node| Record::step().to((node + 1) % nodes)).collect();
     Draft {
         chart: Chart::of(records),
         cut: 0,

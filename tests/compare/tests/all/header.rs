@@ -5,6 +5,7 @@ use charts::{Chart, Header, Record};
 use compare::ask::READ;
 use compare::features::{GEOMETRIES, GEOMETRY};
 use compare::group::Group;
+use second::limits::NODES;
 
 /// Sets a field of a header.
 type Set = fn(&mut Header, u64);
@@ -24,7 +25,7 @@ const FIELDS: [(u64, Set); 9] = [
 
 /// The sample, one node alone, and the largest number of nodes.
 fn bases() -> [Chart; 3] {
-    let largest: Vec<u64> = (0..256).map(|node| node % 3 * 16).collect();
+    let largest: Vec<u64> = (0..NODES as u64).map(|node| node % 3 * 16).collect();
     [
         Chart::sample(),
         Chart::of(vec![Record::read(0)]),
@@ -52,7 +53,7 @@ fn every_value_of_every_header_field() {
 #[test]
 fn every_number_of_nodes_with_as_many_records() {
     let mut group = Group::of("numbers of nodes");
-    for nodes in 0..=300 {
+    for nodes in 0..=NODES + 44 {
         let mut chart = Chart::steps(nodes);
         for entry in [0, nodes.saturating_sub(1), nodes, nodes + 1] {
             chart.header.entry = entry as u64;
@@ -60,7 +61,7 @@ fn every_number_of_nodes_with_as_many_records() {
         }
     }
     let tally = group.end();
-    tally.expect_each(READ, 0..=0, 512);
+    tally.expect_each(READ, 0..=0, 2 * NODES as u64);
     tally.expect_each(READ, 5..=6, 100);
 }
 

@@ -3,6 +3,7 @@
 use charts::Chart;
 use compare::ask::READ;
 use compare::group::Group;
+use second::limits::NODES;
 
 /// The bytes cut, or filled up with zeros.
 fn of_length(bytes: &[u8], length: usize) -> Vec<u8> {
@@ -34,7 +35,7 @@ fn every_length_to_64_of_anything() {
 #[test]
 fn every_length_around_a_charts_own() {
     let mut group = Group::of("lengths around a chart's own");
-    for nodes in (1..=256).filter(|nodes| nodes % 15 <= 1 || *nodes > 250) {
+    for nodes in (1..=NODES).filter(|nodes| nodes % 15 <= 1 || *nodes > NODES - 6) {
         let chart = Chart::steps(nodes).bytes();
         for length in chart.len().saturating_sub(17)..=chart.len() + 17 {
             group.trial(&of_length(&chart, length));

@@ -3,6 +3,7 @@
 use charts::{Chart, Record};
 use compare::ask::READ;
 use compare::group::Group;
+use second::limits::NODES;
 
 const HIGHEST: u64 = (1 << 32) - 1;
 
@@ -57,7 +58,7 @@ fn every_record_at_its_boundaries_in_small_charts() {
 #[test]
 fn every_record_at_its_boundaries_in_the_largest_chart() {
     let mut group = Group::of("records of the largest chart");
-    sweep(&mut group, 256);
+    sweep(&mut group, NODES as u64);
     let tally = group.end();
     tally.expect_each(READ, 0..=0, 100);
     tally.expect_each(READ, 9..=9, 1_000);

@@ -6,6 +6,7 @@ use compare::bounds::Question;
 use compare::group::Group;
 use compare::raw;
 use compare::table::{LentTable, Table};
+use second::limits::{BLOCKS, NODES};
 use veilbuzz::{Analysis, Costs};
 
 /// The sample with a read before its end that no walk reaches, and two more nodes of that kind behind it.
@@ -126,20 +127,20 @@ fn costs_and_bounds_at_their_ends() {
     }
 }
 
-/// 256 reads, all but some of them hits or all of them misses, at the highest costs and bounds.
+/// The most reads, all but some of them hits or all of them misses, at the highest costs and bounds.
 #[test]
 fn the_largest_totals() {
     let mut group = Group::of("the largest totals");
-    for blocks in [1, 64] {
-        let reads: Vec<u64> = (0..256).map(|node| node % blocks * 16).collect();
+    for blocks in [1, BLOCKS as u64] {
+        let reads: Vec<u64> = (0..NODES as u64).map(|node| node % blocks * 16).collect();
         let chart = Chart::straight(&reads).bytes();
         let highest = Question {
             costs: Costs {
                 hit: 65_535,
                 miss: 65_535,
             },
-            floors: vec![65_535; 256],
-            ceilings: vec![65_535; 256],
+            floors: vec![65_535; NODES],
+            ceilings: vec![65_535; NODES],
         };
         let asked = Asked {
             question: highest,

@@ -4,8 +4,8 @@ use charts::{Chart, Record};
 use second::analysis::Analysed;
 use second::cache::Costs;
 use second::lending::Lending;
+use second::limits::PASSES;
 use second::refusal::Refusal;
-use second::report::ALLOWANCE;
 use second::totals::{Bounds, Totals};
 
 pub const NODES: usize = 6;
@@ -33,7 +33,7 @@ impl Question {
     pub fn accepted() -> Question {
         let chart = sample().bytes();
         let mut table = Lending::of(BLOCKS, NODES, 77);
-        assert!(matches!(table.analyse(&chart, ALLOWANCE), Analysed::Settled { .. }));
+        assert!(matches!(table.analyse(&chart, PASSES), Analysed::Settled { .. }));
         Question {
             chart,
             table,

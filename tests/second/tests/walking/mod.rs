@@ -8,15 +8,15 @@ use second::chart::Chart;
 use second::class::Class;
 use second::header::Start;
 use second::lending::Lending;
+use second::limits::PASSES;
 use second::passes::settle;
-use second::report::ALLOWANCE;
 use second::table::Table;
 
 /// The bytes of a random chart, the chart, and the analysis's own table; nothing if it has too many blocks.
 pub fn settled(random: &mut Random) -> Option<(Vec<u8>, Chart, Lending)> {
     let bytes = whole(random).bytes();
     let mut lending = Lending::largest();
-    let Analysed::Settled { .. } = lending.analyse(&bytes, ALLOWANCE) else {
+    let Analysed::Settled { .. } = lending.analyse(&bytes, PASSES) else {
         return None;
     };
     let chart = Chart::read(&bytes).expect("the analysis accepted it");
@@ -89,7 +89,7 @@ pub fn looser(random: &mut Random, bytes: &[u8], chart: &Chart, tighter: &Lendin
             }
         }
     }
-    settle(chart, &mut table, ALLOWANCE).expect("ages change so often at most");
+    settle(chart, &mut table, PASSES).expect("ages change so often at most");
     for node in 0..nodes {
         lending.classes[node] = Class::of(chart, lending.lent(), node) as u8;
     }

@@ -15,43 +15,33 @@ Inv-loop list count blocks₀ k₀ blocks k =
 abbrev μ-loop : tie.MeasureT-loop
 μ-loop list count blocks₀ k₀ blocks k = count - k
 
--- src/buffers.rt:38:5
 loop-holds : tie.Need-loop-holds Inv-loop μ-loop
 loop-holds c = search needs
 
--- src/buffers.rt:39:21
 mul-blocks : tie.Need-mul-blocks Inv-loop μ-loop
 mul-blocks c = search needs
 
--- src/buffers.rt:39:21
 shared-slice-read-blocks : tie.Need-shared-slice-read-blocks Inv-loop μ-loop
 shared-slice-read-blocks c = search needs
 
--- src/buffers.rt:39:9
 mul-blocks-2 : tie.Need-mul-blocks-2 Inv-loop μ-loop
 mul-blocks-2 c = search needs
 
--- src/buffers.rt:39:9
 slice-write-blocks : tie.Need-slice-write-blocks Inv-loop μ-loop
 slice-write-blocks c = search needs
 
--- src/buffers.rt:38:9
 add-k : tie.Need-add-k Inv-loop μ-loop
 add-k c = search needs
 
--- src/buffers.rt:38:5
 loop-less : tie.Need-loop-less Inv-loop μ-loop
 loop-less c = search needs
 
--- src/buffers.rt:38:5
 loop-again : tie.Need-loop-again Inv-loop μ-loop
 loop-again c = (search needs, (search needs, patch-turn0 _ _ _ _ _ (c .before .before .loop .inv .1 .1) refl))
 
--- src/buffers.rt:34:1
 same-length : tie.Need-same-length Inv-loop μ-loop
 same-length c = search needs
 
--- src/buffers.rt:34:1
 returns : tie.Need-returns Inv-loop μ-loop
 returns c =
     let e : c .before .loop .k ≡ c .before .before .args .count = omega arith

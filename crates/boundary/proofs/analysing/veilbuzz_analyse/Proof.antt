@@ -2,62 +2,50 @@ use borrow.Author.Needs.{needs}
 use mathlib.Core.Path.{ap, _∙_}
 use denote.Ref.{now}
 use Rattle.analysis.specs.Analysis.{Left, analysedSays}
-use Rattle.boundary.specs.Told.{answerNumbers}
+use Rattle.boundary.specs.Told.{analysedNumbers}
 use Rattle.boundary.proofs.Answers.{answer-told}
 use Rattle.boundary.proofs.analysing.veilbuzz_analyse.Statement.{statement}
 use Rattle.boundary.proofs.analysing.veilbuzz_analyse.Tie as tie
 
--- src/analysing.rt:36:9
 analyse-requires : tie.Need-analyse-requires
 analyse-requires c κs = search needs
 
--- src/analysing.rt:37:19
 analysed-numbers-requires : tie.Need-analysed-numbers-requires
 analysed-numbers-requires c κs = search needs
 
--- src/analysing.rt:38:10
 slice-aggregate-tell : tie.Need-slice-aggregate-tell
 slice-aggregate-tell c = search needs
 
--- src/analysing.rt:38:5
 tell-requires : tie.Need-tell-requires
 tell-requires c κs = search needs
 
--- src/analysing.rt:39:5
 array-read-result : tie.Need-array-read-result
 array-read-result c = search needs
 
--- src/analysing.rt:21:1
 same-length : tie.Need-same-length
 same-length c = search needs
 
--- src/analysing.rt:21:1
 same-length-2 : tie.Need-same-length-2
 same-length-2 c = search needs
 
--- src/analysing.rt:21:1
 same-length-3 : tie.Need-same-length-3
 same-length-3 c = search needs
 
--- src/analysing.rt:21:1
 same-length-4 : tie.Need-same-length-4
 same-length-4 c = search needs
 
--- src/analysing.rt:21:1
 same-length-5 : tie.Need-same-length-5
 same-length-5 c = search needs
 
--- src/analysing.rt:21:1
 same-length-6 : tie.Need-same-length-6
 same-length-6 c = search needs
 
--- src/analysing.rt:21:1
 returns : tie.Need-returns
 returns c =
     let analysed = c .before .before .before .before .before .before .before .before .before .before .before .before .before .before .before .before .analyse .ensures in
     let answer =
     answer-told _ _ (now (c .before .before .before .before .before .before .before .before .before .before .before .before .before .before .before .before .before .before .before .before .before .before .before .before .before .before .before .before .before .args .answer)) _
-    (c .before .before .before .before .before .analysed-numbers .ensures ∙ ap (λ (left : Left). answerNumbers (analysedSays (left .answer))) analysed)
+    (c .before .before .before .before .before .analysed-numbers .ensures ∙ ap (λ (left : Left). analysedNumbers (analysedSays (left .answer))) analysed)
     (c .before .before .tell .ensures) in
     (answer .0, (ap (λ (left : Left). left .buffers) analysed, answer .1))
 

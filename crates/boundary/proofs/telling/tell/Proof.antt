@@ -18,47 +18,36 @@ Inv-loop numbers lent₀ count k₀ lent k =
 abbrev μ-loop : tie.MeasureT-loop
 μ-loop numbers lent₀ count k₀ lent k = count - k
 
--- src/telling.rt:16:9
 returns : tie.Need-returns Inv-loop μ-loop
 returns c = rw (lt-ltb _ _ (c .if1 .taken))
 
--- src/telling.rt:18:5
 loop-holds : tie.Need-loop-holds Inv-loop μ-loop
 loop-holds c = search needs
 
--- src/telling.rt:19:19
 mul-lent : tie.Need-mul-lent Inv-loop μ-loop
 mul-lent c = search needs
 
--- src/telling.rt:19:19
 shared-slice-read-lent : tie.Need-shared-slice-read-lent Inv-loop μ-loop
 shared-slice-read-lent c = search needs
 
--- src/telling.rt:19:9
 mul-lent-2 : tie.Need-mul-lent-2 Inv-loop μ-loop
 mul-lent-2 c = search needs
 
--- src/telling.rt:19:9
 slice-write-lent : tie.Need-slice-write-lent Inv-loop μ-loop
 slice-write-lent c = search needs
 
--- src/telling.rt:18:9
 add-k : tie.Need-add-k Inv-loop μ-loop
 add-k c = search needs
 
--- src/telling.rt:18:5
 loop-less : tie.Need-loop-less Inv-loop μ-loop
 loop-less c = search needs
 
--- src/telling.rt:18:5
 loop-again : tie.Need-loop-again Inv-loop μ-loop
 loop-again c = (search needs, (search needs, patch-turn0 _ _ _ _ _ (c .before .before .loop .inv .1 .1) refl))
 
--- src/telling.rt:11:1
 same-length : tie.Need-same-length Inv-loop μ-loop
 same-length c = search needs
 
--- src/telling.rt:11:1
 returns-2 : tie.Need-returns-2 Inv-loop μ-loop
 returns-2 c =
     let lent = now (c .before .before .before .args .lent) in

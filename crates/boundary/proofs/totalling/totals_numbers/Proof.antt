@@ -2,26 +2,31 @@ use borrow.Author.Needs.{needs}
 use Rattle.boundary.proofs.totalling.totals_numbers.Statement.{statement}
 use Rattle.boundary.proofs.totalling.totals_numbers.Tie as tie
 
--- src/totalling.rt:16:27
 enum-known-answer : tie.Need-enum-known-answer
 enum-known-answer c = search needs
 
--- src/totalling.rt:17:25
 enum-known-answer-2 : tie.Need-enum-known-answer-2
 enum-known-answer-2 c = search needs
 
--- src/totalling.rt:17:37
-refused-requires : tie.Need-refused-requires
-refused-requires c κs = search needs
+number-requires : tie.Need-number-requires
+number-requires c κs = search needs
 
--- src/totalling.rt:12:1
+place-requires : tie.Need-place-requires
+place-requires c κs = search needs
+
 returns : tie.Need-returns
 returns c = rw (c .before .answer .given .1)
 
--- src/totalling.rt:12:1
 returns-2 : tie.Need-returns-2
-returns-2 c = rw (c .before .before .answer2 .given .1, c .refused .ensures)
+returns-2 c = rw (c .before .before .before .answer2 .given .1, c .before .number .ensures, c .place .ensures)
 
 pub totals-numbers-spec : {M : Type 1} → statement M
 totals-numbers-spec =
-    tie.close (tie.spec enum-known-answer enum-known-answer-2 refused-requires returns returns-2)
+    tie.close
+    (tie.spec
+    enum-known-answer
+    enum-known-answer-2
+    number-requires
+    place-requires
+    returns
+    returns-2)

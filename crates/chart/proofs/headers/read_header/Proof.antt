@@ -1,8 +1,23 @@
 use borrow.Author.Needs.{needs}
 use borrow.Author.Tests.{lt-ltb, le-ltb}
-use Rattle.chart.specs.Header.{headerRead}
+use mathlib.Core.List.{List}
+use mathlib.Core.Path.{ap, _∙_}
+use Prim.Native.Nat.{ℕ}
+use lib.Dec.{eqb}
+use lib.ListN.{length}
+use Rattle.lists.specs.Choice.{firstRule}
+use Rattle.chart.specs.declared.headers.HeaderRead.{HeaderRead}
+use Rattle.chart.specs.declared.headers.HeaderRead.the-variants.{Accepted, Refused}
+use Rattle.chart.specs.declared.headers.HeaderFields.{HeaderFields}
+use Rattle.chart.specs.Layout.{chartLength}
+use Rattle.chart.specs.Header.{headerFields, headerOf, headerRules, headerRead}
 use Rattle.chart.proofs.headers.read_header.Statement.{statement}
 use Rattle.chart.proofs.headers.read_header.Tie as tie
+
+-- What fields that begin so many bytes give.
+abbrev answerIn : List ℕ → HeaderFields → HeaderRead
+answerIn bytes fields =
+    firstRule Refused (headerRules fields (eqb (length bytes) (chartLength (fields .nodes)))) (Accepted (headerOf fields))
 
 returns : tie.Need-returns
 unfolding headerRead
@@ -11,12 +26,37 @@ returns c = rw (lt-ltb _ _ (c .if1 .taken))
 word-at-requires : tie.Need-word-at-requires
 word-at-requires c κs = search needs
 
+header-fields-requires : tie.Need-header-fields-requires
+header-fields-requires c κs = search needs
+
+mul-header-of : tie.Need-mul-header-of
+mul-header-of c =
+    let few = ap (λ (f : HeaderFields). f .nodes) (c .header-fields .ensures)
+    in search needs
+
+add-header-of : tie.Need-add-header-of
+add-header-of c =
+    let few = ap (λ (f : HeaderFields). f .nodes) (c .header-fields .ensures)
+    in search needs
+
 header-of-requires : tie.Need-header-of-requires
 header-of-requires c κs = search needs
 
 returns-2 : tie.Need-returns-2
 unfolding headerRead
-returns-2 c = rw (le-ltb _ _ (c .before .before .if1 .left), ← c .before .word-at .ensures) (c .header-of .ensures)
+returns-2 c =
+    let bytes = c .before .before .before .before .before .args .chart .now in
+    rw (le-ltb _ _ (c .before .before .before .if1 .left))
+    (c .header-of .ensures ∙ ap (answerIn bytes) (c .before .header-fields .ensures ∙ ap headerFields (c .before .before .word-at .ensures)))
 
 pub read-header-spec : {M : Type 1} → statement M
-read-header-spec = tie.close (tie.spec returns word-at-requires header-of-requires returns-2)
+read-header-spec =
+    tie.close
+    (tie.spec
+    returns
+    word-at-requires
+    header-fields-requires
+    mul-header-of
+    add-header-of
+    header-of-requires
+    returns-2)

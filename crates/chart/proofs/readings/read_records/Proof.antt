@@ -1,4 +1,5 @@
 use borrow.Author.Needs.{needs}
+use Rattle.chart.specs.Chart.{recordsIn}
 use Rattle.chart.proofs.Reader.{records-broken, records-over, records-kept}
 use Rattle.chart.proofs.readings.read_records.Statement.{statement}
 use Rattle.chart.proofs.readings.read_records.Tie as tie
@@ -13,7 +14,7 @@ returns : tie.Need-returns
 returns c =
     let a = c .before .before .before .before .before .args in
     let b = c .before .before .first-broken in
-    rw (records-broken (a .chart .now) (a .header) (b .result) (b .ensures) (c .before .if1 .taken)) (c .refuse .ensures)
+    rw (records-broken (recordsIn (a .chart .now)) (a .header) (b .result) (b .ensures) (c .before .if1 .taken)) (c .refuse .ensures)
 
 slice-aggregate-gather : tie.Need-slice-aggregate-gather
 slice-aggregate-gather c = search needs
@@ -35,14 +36,14 @@ returns-2 c =
     let a = c .before .before .before .before .before .before .before .before .before .before .before .args in
     let b = c .before .before .before .before .before .before .before .before .first-broken in
     let g = c .before .before .before .before .before .gather in
-    rw (records-over (a .chart .now) (a .header) (b .result) (b .ensures) (c .before .before .before .before .before .before .before .if1 .left) (g .result) (g .last .1 .1 .1 .0) (g .ensures) _ (c .before .before .gathered .given .1)) (c .refuse2 .ensures)
+    rw (records-over (recordsIn (a .chart .now)) (a .header) (b .result) (b .ensures) (c .before .before .before .before .before .before .before .if1 .left) (g .result) (g .last .1 .1 .1 .0) (g .ensures) _ (c .before .before .gathered .given .1)) (c .refuse2 .ensures)
 
 returns-3 : tie.Need-returns-3
 returns-3 c =
     let a = c .before .before .before .before .before .before .before .before .before .before .args in
     let b = c .before .before .before .before .before .before .before .first-broken in
     let g = c .before .before .before .before .gather in
-    records-kept (a .chart .now) (a .header) (b .result) (b .ensures) (c .before .before .before .before .before .before .if1 .left) (g .result) (g .last .1 .1 .1 .0) (g .ensures) _ (c .before .gathered2 .given .1)
+    records-kept (recordsIn (a .chart .now)) (a .header) (b .result) (b .ensures) (c .before .before .before .before .before .before .if1 .left) (g .result) (g .last .1 .1 .1 .0) (g .ensures) _ (c .before .gathered2 .given .1)
 
 pub read-records-spec : {M : Type 1} → statement M
 read-records-spec =

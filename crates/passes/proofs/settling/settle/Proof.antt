@@ -5,10 +5,10 @@ use mathlib.Core.Path.{_≡_, refl, sym, ap, _∙_}
 use native.Mathlib.Omega.{arith}
 use denote.Ref.{now}
 use lib.ListN.{length}
-use Rattle.chart.specs.Chart.{chartIn}
 use Rattle.flow.specs.Pass.{pass, afterPasses}
 use Rattle.flow.proofs.Counting.{Counted, counting-begins, counting-goes, counting-settles, counting-spends}
-use Rattle.tables.specs.AgesFlow.{agesFlow}
+use Rattle.ages.specs.Plan.{planFlow}
+use Rattle.plan.specs.Listed.{planIn}
 use Rattle.tables.specs.Lent.{Lent, over}
 use Rattle.tables.specs.Inner.{LentRun, overRun}
 use Rattle.passes.proofs.Runs.{passes-lie, passes-turn, passes-table}
@@ -16,83 +16,74 @@ use Rattle.passes.proofs.settling.settle.Statement.{statement}
 use Rattle.passes.proofs.settling.settle.Tie as tie
 
 abbrev Inv-loop : tie.InvT-loop
-Inv-loop shape chart keys works must₀ may₀ marks₀ allowance made₀ must may marks made =
+Inv-loop columns plan must₀ may₀ marks₀ allowance made₀ must may marks made =
     (made ≤ allowance) × ((length must ≡ length must₀) × ((length may ≡ length may₀) × ((length marks ≡ length marks₀)
-    × ((_≡_ {A = Lent} (record { must = must; may = may; marks = marks }) (over (chartIn chart) (afterPasses (agesFlow (chartIn chart)) made) (record { must = must₀; may = may₀; marks = marks₀ })))
-    × Counted (agesFlow (chartIn chart)) allowance made))))
+    × ((_≡_ {A = Lent} (record { must = must; may = may; marks = marks }) (over (planIn columns plan) (afterPasses (planFlow (planIn columns plan)) made) (record { must = must₀; may = may₀; marks = marks₀ })))
+    × Counted (planFlow (planIn columns plan)) allowance made))))
 
 abbrev μ-loop : tie.MeasureT-loop
-μ-loop shape chart keys works must₀ may₀ marks₀ allowance made₀ must may marks made = allowance - made
+μ-loop columns plan must₀ may₀ marks₀ allowance made₀ must may marks made = allowance - made
 
 -- The table that was lent.
 abbrev lent : tie.Start Inv-loop μ-loop → Lent
 lent s = record { must = now (s .args .must); may = now (s .args .may); marks = now (s .args .marks) }
 
--- src/settling.rt:59:5
 loop-holds : tie.Need-loop-holds Inv-loop μ-loop
 unfolding afterPasses
 loop-holds c =
-    let s = c .before .before .before .before .before .before in
-    (search needs, (refl, (refl, (refl, (s .pre .1 .1, counting-begins (agesFlow (chartIn (now (s .args .chart)))) (s .args .allowance))))))
+    let s = c .before .before .before .before .before in
+    (search needs, (refl, (refl, (refl, (s .pre .1 .1, counting-begins (planFlow (planIn (now (s .args .columns)) (now (s .args .plan)))) (s .args .allowance))))))
 
--- src/settling.rt:60:13
 pass-requires : tie.Need-pass-requires Inv-loop μ-loop
 pass-requires c κs =
-    let s = c .before .before .before .before .before .before .before .before .before .before .before in
+    let s = c .before .before .before .before .before .before .before .before .before .before in
     let l = c .before .before .before .before .loop in
     let roomy = s .pre .1 .0 in (
       s .pre .0,
       (
         record { must-room = omega (arith, roomy .must-room); may-room = omega (arith, roomy .may-room); marks-room = omega (arith, roomy .marks-room) },
-        passes-lie (chartIn (now (s .args .chart))) (lent s) (l .made) _ (l .inv .1 .1 .1 .1 .0),
+        passes-lie (planIn (now (s .args .columns)) (now (s .args .plan))) (lent s) (l .made) _ (l .inv .1 .1 .1 .1 .0),
       ),
     )
 
--- src/settling.rt:61:9
 add-made : tie.Need-add-made Inv-loop μ-loop
 add-made c = search needs
 
--- src/settling.rt:63:13
 same-length : tie.Need-same-length Inv-loop μ-loop
 same-length c = search needs
 
--- src/settling.rt:63:13
 same-length-2 : tie.Need-same-length-2 Inv-loop μ-loop
 same-length-2 c = search needs
 
--- src/settling.rt:63:13
 same-length-3 : tie.Need-same-length-3 Inv-loop μ-loop
 same-length-3 c = search needs
 
--- src/settling.rt:63:13
 returns : tie.Need-returns Inv-loop μ-loop
 returns c =
-    let s = c .before .before .before .before .before .before .before .before .before .before .before .before .before .before .before .before .before .before .before in
+    let s = c .before .before .before .before .before .before .before .before .before .before .before .before .before .before .before .before .before .before in
     let l = c .before .before .before .before .before .before .before .before .before .before .before .before .loop in
-    let chart = chartIn (now (s .args .chart)) in
-    let after : LentRun = record { lent = record { must = c .before .before .before .before .before .before .before .pass .last .1 .1 .1 .1 .0; may = c .before .before .before .before .before .before .before .pass .last .1 .1 .1 .1 .1 .0; marks = c .before .before .before .before .before .before .before .pass .last .1 .1 .1 .1 .1 .1 .0 }; changed = c .before .before .before .before .before .before .before .pass .result } in
-    let made : after ≡ overRun chart (lent s) (pass (agesFlow chart) (afterPasses (agesFlow chart) (l .made))) =
-    passes-turn chart (lent s) (l .made) _ (l .inv .1 .1 .1 .1 .0) after (c .before .before .before .before .before .before .before .pass .ensures) in
-    let flag : pass (agesFlow chart) (afterPasses (agesFlow chart) (l .made)) .changed ≡ c .before .before .before .before .before .before .before .pass .result = sym (ap (λ (r : LentRun). r .changed) made) in
+    let held = planIn (now (s .args .columns)) (now (s .args .plan)) in
+    let after : LentRun = record { lent = record { must = c .before .before .before .before .before .before .before .pass .last .1 .1 .0; may = c .before .before .before .before .before .before .before .pass .last .1 .1 .1 .0; marks = c .before .before .before .before .before .before .before .pass .last .1 .1 .1 .1 .0 }; changed = c .before .before .before .before .before .before .before .pass .result } in
+    let made : after ≡ overRun held (lent s) (pass (planFlow held) (afterPasses (planFlow held) (l .made))) =
+    passes-turn held (lent s) (l .made) _ (l .inv .1 .1 .1 .1 .0) after (c .before .before .before .before .before .before .before .pass .ensures) in
+    let flag : pass (planFlow held) (afterPasses (planFlow held) (l .made)) .changed ≡ c .before .before .before .before .before .before .before .pass .result = sym (ap (λ (r : LentRun). r .changed) made) in
     record {
-      answered = sym (counting-settles (agesFlow chart) (s .args .allowance) (l .made) (c .before .before .before .before .before .before .before .before .before .before .before .loop-test .taken) (l .inv .1 .1 .1 .1 .1) (flag ∙ not-true (c .before .before .before .before .before .before .before .pass .result) (c .if1 .taken)));
-      table = passes-table chart (lent s) (l .made) _ (l .inv .1 .1 .1 .1 .0) after made;
+      answered = sym (counting-settles (planFlow held) (s .args .allowance) (l .made) (c .before .before .before .before .before .before .before .before .before .before .before .loop-test .taken) (l .inv .1 .1 .1 .1 .1) (flag ∙ not-true (c .before .before .before .before .before .before .before .pass .result) (c .if1 .taken)));
+      table = passes-table held (lent s) (l .made) _ (l .inv .1 .1 .1 .1 .0) after made;
     }
 
--- src/settling.rt:59:5
 loop-less : tie.Need-loop-less Inv-loop μ-loop
 loop-less c = search needs
 
--- src/settling.rt:59:5
 loop-again : tie.Need-loop-again Inv-loop μ-loop
 loop-again c =
-    let s = c .before .before .before .before .before .before .before .before .before .before .before .before .before .before .before .before .before .before .before in
+    let s = c .before .before .before .before .before .before .before .before .before .before .before .before .before .before .before .before .before .before in
     let l = c .before .before .before .before .before .before .before .before .before .before .before .before .loop in
-    let chart = chartIn (now (s .args .chart)) in
-    let after : LentRun = record { lent = record { must = c .before .before .before .before .before .before .before .pass .last .1 .1 .1 .1 .0; may = c .before .before .before .before .before .before .before .pass .last .1 .1 .1 .1 .1 .0; marks = c .before .before .before .before .before .before .before .pass .last .1 .1 .1 .1 .1 .1 .0 }; changed = c .before .before .before .before .before .before .before .pass .result } in
-    let made : after ≡ overRun chart (lent s) (pass (agesFlow chart) (afterPasses (agesFlow chart) (l .made))) =
-    passes-turn chart (lent s) (l .made) _ (l .inv .1 .1 .1 .1 .0) after (c .before .before .before .before .before .before .before .pass .ensures) in
-    let flag : pass (agesFlow chart) (afterPasses (agesFlow chart) (l .made)) .changed ≡ c .before .before .before .before .before .before .before .pass .result = sym (ap (λ (r : LentRun). r .changed) made) in (
+    let held = planIn (now (s .args .columns)) (now (s .args .plan)) in
+    let after : LentRun = record { lent = record { must = c .before .before .before .before .before .before .before .pass .last .1 .1 .0; may = c .before .before .before .before .before .before .before .pass .last .1 .1 .1 .0; marks = c .before .before .before .before .before .before .before .pass .last .1 .1 .1 .1 .0 }; changed = c .before .before .before .before .before .before .before .pass .result } in
+    let made : after ≡ overRun held (lent s) (pass (planFlow held) (afterPasses (planFlow held) (l .made))) =
+    passes-turn held (lent s) (l .made) _ (l .inv .1 .1 .1 .1 .0) after (c .before .before .before .before .before .before .before .pass .ensures) in
+    let flag : pass (planFlow held) (afterPasses (planFlow held) (l .made)) .changed ≡ c .before .before .before .before .before .before .before .pass .result = sym (ap (λ (r : LentRun). r .changed) made) in (
       search needs,
       (
         search needs,
@@ -101,36 +92,32 @@ loop-again c =
           (
             search needs,
             (
-              passes-table chart (lent s) (l .made) _ (l .inv .1 .1 .1 .1 .0) after made,
-              counting-goes (agesFlow chart) (s .args .allowance) (l .made) (c .before .before .before .before .before .before .before .before .before .before .before .loop-test .taken) (l .inv .1 .1 .1 .1 .1) (flag ∙ not-false (c .before .before .before .before .before .before .before .pass .result) (c .if1 .left)),
+              passes-table held (lent s) (l .made) _ (l .inv .1 .1 .1 .1 .0) after made,
+              counting-goes (planFlow held) (s .args .allowance) (l .made) (c .before .before .before .before .before .before .before .before .before .before .before .loop-test .taken) (l .inv .1 .1 .1 .1 .1) (flag ∙ not-false (c .before .before .before .before .before .before .before .pass .result) (c .if1 .left)),
             ),
           ),
         ),
       ),
     )
 
--- src/settling.rt:43:1
 same-length-4 : tie.Need-same-length-4 Inv-loop μ-loop
 same-length-4 c = search needs
 
--- src/settling.rt:43:1
 same-length-5 : tie.Need-same-length-5 Inv-loop μ-loop
 same-length-5 c = search needs
 
--- src/settling.rt:43:1
 same-length-6 : tie.Need-same-length-6 Inv-loop μ-loop
 same-length-6 c = search needs
 
--- src/settling.rt:43:1
 returns-2 : tie.Need-returns-2 Inv-loop μ-loop
 returns-2 c =
-    let s = c .before .before .before .before .before .before .before .before in
+    let s = c .before .before .before .before .before .before .before in
     let l = c .before .loop in
-    let chart = chartIn (now (s .args .chart)) in
+    let held = planIn (now (s .args .columns)) (now (s .args .plan)) in
     let all : l .made ≡ s .args .allowance = omega arith in
     record {
-      answered = sym (counting-spends (agesFlow chart) (s .args .allowance) (l .made) (omega arith) (l .inv .1 .1 .1 .1 .1));
-      table = l .inv .1 .1 .1 .1 .0 ∙ ap (λ (n : ℕ). over chart (afterPasses (agesFlow chart) n) (lent s)) all;
+      answered = sym (counting-spends (planFlow held) (s .args .allowance) (l .made) (omega arith) (l .inv .1 .1 .1 .1 .1));
+      table = l .inv .1 .1 .1 .1 .0 ∙ ap (λ (n : ℕ). over held (afterPasses (planFlow held) n) (lent s)) all;
     }
 
 pub settle-spec : {M : Type 1} → statement M

@@ -1,45 +1,58 @@
 use borrow.Author.Needs.{needs}
-use Prim.Native.Nat.{_≤_, _<_}
-use mathlib.Core.Path.{_≡_, sym, _∙_}
+use Prim.Native.Nat.{ℕ, _≤_, _<_}
+use mathlib.Core.List.{List}
+use mathlib.Core.Path.{_≡_, sym, ap, subst, _∙_}
 use native.Mathlib.Omega.{arith}
+use denote.Ref.{now}
 use lib.ListN.{length}
 use Rattle.chart.specs.Geometry.{mostBlocks}
-use denote.Ref.{now}
-use Rattle.chart.specs.declared.records.Node.{Node}
-use Rattle.chart.specs.declared.records.NodeRead.the-variants.{Found}
-use Rattle.chart.specs.Record.{arrowsOf}
-use Rattle.chart.specs.Chart.{Chart, chartIn, nodeAt, nodeRead}
-use Rattle.tables.specs.Lent.{Lent, agesUsed}
+use Rattle.chart.specs.Record.{arrowsOf, Leads}
+use Rattle.plan.specs.declared.PlannedNode.{PlannedNode}
+use Rattle.plan.specs.Listed.{nodesIn, blocksIn, nodeIn, Drawn, WorkIn}
+use Rattle.plan.proofs.Holding.{head-listed, node-listed, node-leads, work-in}
 use Rattle.rows.specs.Rows.{agesIn}
-use Rattle.passes.specs.Plan.{Ready}
-use Rattle.passes.specs.Inner.{metIntoAll, rowAfter}
-use Rattle.passes.proofs.Readied as readied
+use Rattle.tables.specs.Lent.{Lent}
+use Rattle.tables.specs.Inner.{Roomy, Loads, rowAfter}
+use Rattle.tables.proofs.After.{row-loads}
+use Rattle.passes.specs.Inner.{metIntoAll}
 use Rattle.passes.proofs.Visits.{unmarked-visited, marked-visited}
 use Rattle.passes.proofs.visiting.visit_node.Statement.{statement}
 use Rattle.passes.proofs.visiting.visit_node.Tie as tie
 
 -- What the function was lent, and what was asked of it.
 module _ (s : tie.Start) where
-  abbrev chart : Chart
-  chart = chartIn (now (s .args .chart))
+  abbrev columns : List ℕ
+  columns = now (s .args .columns)
+
+  abbrev plan : List ℕ
+  plan = now (s .args .plan)
 
   abbrev lent : Lent
   lent = record { must = now (s .args .must); may = now (s .args .may); marks = now (s .args .marks) }
 
-  ready : Ready (now (s .args .chart)) (now (s .args .keys)) (now (s .args .works)) (s .args .shape)
-  ready = s .pre .0
+  drawn : Drawn columns plan
+  drawn = s .pre .0
 
-  in-nodes : s .args .n < chart .header .nodes
-  in-nodes = readied.in-nodes ready (s .args .n) (s .pre .1 .1 .1)
+  inside : s .args .n < nodesIn plan
+  inside = s .pre .1 .1 .1
 
-  must-room : agesUsed chart ≤ length (now (s .args .must))
-  must-room = readied.ready-room ready (now (s .args .must)) (s .pre .1 .0 .must-room)
+  roomy : Roomy (nodesIn plan) (blocksIn plan) (now (s .args .must)) (now (s .args .may)) (now (s .args .marks))
+  roomy = s .pre .1 .0
 
-  may-room : agesUsed chart ≤ length (now (s .args .may))
-  may-room = readied.ready-room ready (now (s .args .may)) (s .pre .1 .0 .may-room)
+  loads : (blocks : ℕ) → blocks ≡ blocksIn plan → Loads columns (now (s .args .must)) (now (s .args .may)) blocks (s .args .n)
+  loads blocks e =
+      subst (λ (b : ℕ). Loads columns (now (s .args .must)) (now (s .args .may)) b (s .args .n)) (sym e)
+      (row-loads columns plan drawn (s .args .n) inside lent (roomy .must-room) (roomy .may-room))
 
-  node-is : (node : Node) → Found node ≡ nodeRead (now (s .args .chart)) (s .args .n) → node ≡ nodeAt (now (s .args .chart)) (s .args .n)
-  node-is = readied.node-is ready (s .args .n) (s .pre .1 .1 .1)
+  works : (blocks : ℕ) → blocks ≡ blocksIn plan → (node : PlannedNode) → node ≡ nodeIn plan (s .args .n) → WorkIn blocks (node .work)
+  works blocks e node is =
+      subst (λ (b : ℕ). WorkIn b (node .work)) (sym e)
+      (subst (λ (p : PlannedNode). WorkIn (blocksIn plan) (p .work)) (sym is) (work-in columns plan drawn (s .args .n) inside))
+
+  leads : (nodes : ℕ) → nodes ≡ nodesIn plan → (node : PlannedNode) → node ≡ nodeIn plan (s .args .n) → Leads nodes (node .targets)
+  leads nodes e node is =
+      subst (λ (k : ℕ). Leads k (node .targets)) (sym e)
+      (subst (λ (p : PlannedNode). Leads (nodesIn plan) (p .targets)) (sym is) (node-leads columns plan drawn (s .args .n) inside))
 
 -- The row is as long as it is.
 must-long : (c : tie.After-row-after) → length (c .row-after .result .must) ≡ mostBlocks
@@ -48,78 +61,70 @@ must-long c = search needs
 may-long : (c : tie.After-row-after) → length (c .row-after .result .may) ≡ mostBlocks
 may-long c = search needs
 
--- src/visiting.rt:82:8
 slice-read-if1 : tie.Need-slice-read-if1
 slice-read-if1 c = search needs
 
--- src/visiting.rt:83:9
 returns : tie.Need-returns
 returns c =
+    let s = c .before .before .before .before .before .before .before in
+    unmarked-visited (columns s) (plan s) (drawn s) (s .args .n) (inside s) (lent s) (s .args .changed) (s .pre .1 .1 .0) (c .if1 .taken)
+
+nodes-in-requires : tie.Need-nodes-in-requires
+nodes-in-requires c κs =
+    let s = c .before .before .before .before .before .before .before in
+    omega (arith, head-listed (columns s) (plan s) (drawn s))
+
+blocks-in-requires : tie.Need-blocks-in-requires
+blocks-in-requires c κs =
     let s = c .before .before .before .before .before .before .before .before in
-    unmarked-visited (now (s .args .chart)) (chart s) (ready s .read) (now (s .args .keys)) (now (s .args .works)) (ready s .planned) (s .args .n) (in-nodes s) (lent s) (s .args .changed) (s .pre .1 .1 .0) (must-room s) (may-room s) (c .if1 .taken)
+    omega (arith, head-listed (columns s) (plan s) (drawn s))
 
--- src/visiting.rt:85:9
-read-node-requires : tie.Need-read-node-requires
-read-node-requires c κs = search needs
+node-in-requires : tie.Need-node-in-requires
+node-in-requires c κs =
+    let s = c .before .before .before .before .before .before .before .before .before in
+    node-listed (columns s) (plan s) (drawn s) (s .args .n) (inside s)
 
--- src/visiting.rt:86:25
-enum-known-found : tie.Need-enum-known-found
-enum-known-found c = search needs
-
--- src/visiting.rt:87:9
-enum-told : tie.Need-enum-told
-enum-told c = search needs
-
--- src/visiting.rt:87:9
-returns-2 : tie.Need-returns-2
-returns-2 c =
-    let s = c .before .before .before .before .before .before .before .before .before .before .before in
-    absurd (readied.node-there (ready s) (s .args .n) (s .pre .1 .1 .1) (sym (c .enum-told .given .1) ∙ c .before .before .read-node .ensures))
-
--- src/visiting.rt:89:17
 row-after-requires : tie.Need-row-after-requires
 row-after-requires c κs =
-    let s = c .before .before .before .before .before .before .before .before .before .before .before .before .before .before in
-    readied.row-steps (ready s) (s .args .n) (s .pre .1 .1 .1) _ _ (s .pre .1 .0 .must-room) (s .pre .1 .0 .may-room)
+    let s = c .before .before .before .before .before .before .before .before .before .before .before .before .before in
+    let blocks = c .before .before .before .before .blocks-in in
+    let node = c .before .before .before .node-in in
+    (loads s (blocks .result) (blocks .ensures), works s (blocks .result) (blocks .ensures) (node .result) (node .ensures))
 
--- src/visiting.rt:90:5
 send-row-requires : tie.Need-send-row-requires
 send-row-requires c κs =
-    let s = c .before .before .before .before .before .before .before .before .before .before .before .before .before .before .before .before .before .before .before .before .before .before .before in
-    let found = c .before .before .before .before .before .before .before .before .before .before .before .before .found .given in
-    let is = node-is s (found .0 .0) (sym (found .1) ∙ c .before .before .before .before .before .before .before .before .before .before .before .before .before .before .read-node .ensures) in
-    let few = readied.ready-few (ready s) in (
+    let s = c .before .before .before .before .before .before .before .before .before .before .before .before .before .before .before .before .before .before .before .before .before .before in
+    let nodes = c .before .before .before .before .before .before .before .before .before .before .before .before .before .before .nodes-in in
+    let blocks = c .before .before .before .before .before .before .before .before .before .before .before .before .before .blocks-in in
+    let node = c .before .before .before .before .before .before .before .before .before .before .before .before .node-in in
+    let few : blocks .result ≤ mostBlocks = omega (arith, drawn s .few-blocks, blocks .ensures) in (
       (omega (arith, few, must-long (c .before .before .before .before .before .before .before .before)), omega (arith, few, may-long (c .before .before .before .before .before .before .before .before))),
       (
-        s .pre .1 .0,
-        readied.node-aimed (ready s) (s .args .n) (s .pre .1 .1 .1) (found .0 .0) is,
+        subst (λ (k : ℕ). Roomy k (blocks .result) (now (s .args .must)) (now (s .args .may)) (now (s .args .marks))) (sym (nodes .ensures))
+            (subst (λ (b : ℕ). Roomy (nodesIn (plan s)) b (now (s .args .must)) (now (s .args .may)) (now (s .args .marks))) (sym (blocks .ensures)) (roomy s)),
+        leads s (nodes .result) (nodes .ensures) (node .result) (node .ensures),
       ),
     )
 
--- src/visiting.rt:63:1
 same-length : tie.Need-same-length
 same-length c = search needs
 
--- src/visiting.rt:63:1
 same-length-2 : tie.Need-same-length-2
 same-length-2 c = search needs
 
--- src/visiting.rt:63:1
 same-length-3 : tie.Need-same-length-3
 same-length-3 c = search needs
 
--- src/visiting.rt:63:1
-returns-3 : tie.Need-returns-3
-returns-3 c =
-    let s = c .before .before .before .before .before .before .before .before .before .before .before .before .before .before .before .before .before .before .before .before .before .before .before .before .before .before .before .before .before .before in
+returns-2 : tie.Need-returns-2
+returns-2 c =
+    let s = c .before .before .before .before .before .before .before .before .before .before .before .before .before .before .before .before .before .before .before .before .before .before .before .before .before .before .before .before .before in
     let a = s .args in
-    let shaped = ready s .shaped in
-    let found = c .before .before .before .before .before .before .before .before .before .before .before .before .before .before .before .before .before .before .before .found .given in
-    let is : found .0 .0 ≡ nodeAt (now (a .chart)) (a .n) = node-is s (found .0 .0) (sym (found .1) ∙ c .before .before .before .before .before .before .before .before .before .before .before .before .before .before .before .before .before .before .before .before .before .read-node .ensures) in
+    let blocks = c .before .before .before .before .before .before .before .before .before .before .before .before .before .before .before .before .before .before .before .before .blocks-in in
+    let node = c .before .before .before .before .before .before .before .before .before .before .before .before .before .before .before .before .before .before .before .node-in in
     c .before .before .before .before .before .before .send-row .ensures
-    ∙ (λ i. metIntoAll (a .shape .blocks) (agesIn (c .before .before .before .before .before .before .before .before .before .before .before .before .before .before .before .row-after .ensures i)) (arrowsOf (is i)) (record { lent = lent s; changed = a .changed }))
-    ∙ (λ i. metIntoAll (shaped i .blocks) (agesIn (rowAfter (shaped i) (now (a .keys)) (now (a .works)) (now (a .must)) (now (a .may)) (a .n))) (arrowsOf (nodeAt (now (a .chart)) (a .n))) (record { lent = lent s; changed = a .changed }))
-    ∙ marked-visited (now (a .chart)) (chart s) (ready s .read) (now (a .keys)) (now (a .works)) (ready s .planned) (a .n) (in-nodes s) (lent s) (a .changed) (s .pre .1 .1 .0) (must-room s) (may-room s) (c .before .before .before .before .before .before .before .before .before .before .before .before .before .before .before .before .before .before .before .before .before .before .if1 .left)
+    ∙ (λ i. metIntoAll (blocks .result) (agesIn (c .before .before .before .before .before .before .before .before .before .before .before .before .before .before .before .row-after .ensures i)) (arrowsOf (node .result .targets)) (record { lent = lent s; changed = a .changed }))
+    ∙ (λ i. metIntoAll (blocks .ensures i) (agesIn (rowAfter (columns s) (now (a .must)) (now (a .may)) (blocks .ensures i) (a .n) (node .ensures i .work))) (arrowsOf (node .ensures i .targets)) (record { lent = lent s; changed = a .changed }))
+    ∙ marked-visited (columns s) (plan s) (drawn s) (a .n) (inside s) (lent s) (a .changed) (s .pre .1 .1 .0) (roomy s .must-room) (roomy s .may-room) (c .before .before .before .before .before .before .before .before .before .before .before .before .before .before .before .before .before .before .before .before .before .before .if1 .left)
 
 pub visit-node-spec : {M : Type 1} → statement M
 visit-node-spec =
@@ -127,13 +132,12 @@ visit-node-spec =
     (tie.spec
     slice-read-if1
     returns
-    read-node-requires
-    enum-known-found
-    enum-told
-    returns-2
+    nodes-in-requires
+    blocks-in-requires
+    node-in-requires
     row-after-requires
     send-row-requires
     same-length
     same-length-2
     same-length-3
-    returns-3)
+    returns-2)

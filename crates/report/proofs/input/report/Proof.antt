@@ -3,7 +3,8 @@ use Prim.Native.Nat.{_+_}
 use native.Mathlib.Omega.{arith}
 use lib.ListN.{length-take}
 use lib.Seq.{take-all}
-use Rattle.report.specs.Report.{longest, report}
+use Rattle.chart.specs.Geometry.{longestChart}
+use Rattle.report.specs.Report.{report}
 use Rattle.report.proofs.input.report.Statement.{statement}
 use Rattle.report.proofs.input.report.Tie as tie
 
@@ -12,7 +13,7 @@ report-bytes-requires c κs = search needs
 
 returns : tie.Need-returns
 unfolding report
-returns c = (rw (take-all (longest + 1) (c .before .before .before .args .input .now) (omega arith)) (c .report-bytes .ensures .0), c .report-bytes .ensures .1)
+returns c = (rw (take-all (longestChart + 1) (c .before .before .before .args .input .now) (omega arith)) (c .report-bytes .ensures .0), c .report-bytes .ensures .1)
 
 slice-aggregate-report-bytes : tie.Need-slice-aggregate-report-bytes
 slice-aggregate-report-bytes c = simp length-take (omega arith)

@@ -3,7 +3,7 @@ use Prim.Native.Nat.{ℕ}
 use mathlib.Core.List.{List}
 use mathlib.Core.Path.{_≡_, ap, _∙_}
 use Rattle.chart.specs.Geometry.{mostNodes, mostBlocks}
-use Rattle.tables.specs.AgesFlow.{allPasses}
+use Rattle.chart.specs.Geometry.{allPasses}
 use Rattle.analysis.specs.Analysis.{Left, analysed}
 use Rattle.report.specs.Report.{reportOf, zeroBuffers}
 use Rattle.report.specs.Written.{textOf}

@@ -1,6 +1,7 @@
 use borrow.Author.Needs.{needs}
 use mathlib.Core.Path.{_≡_, ap, _∙_}
-use Prim.Native.Nat.{ℕ, _≤_, _-_}
+use mathlib.Core.List.{List}
+use Prim.Native.Nat.{ℕ, _+_, _*_, _≤_, _-_}
 use native.Mathlib.Omega.{arith}
 use lib.ListN.{getD, length}
 use denote.Ref.{now}
@@ -12,13 +13,17 @@ use Rattle.rows.proofs.Touching.{grown, row-turn, touched-row}
 use Rattle.rows.proofs.Row.touch.Statement.{statement}
 use Rattle.rows.proofs.Row.touch.Tie as tie
 
+-- The may rule of column j, by its limit.
+abbrev mayLimited : List ℕ → ℕ → ℕ → ℕ → ℕ
+mayLimited columns j = mayGrown (getD columns (2 * mostBlocks + j) 0)
+
 abbrev Inv-loop : tie.InvT-loop
-Inv-loop ways keys m self₀ h g key j₀ self j =
-    (j ≤ mostBlocks) × ((self .must ≡ patch (self₀ .must) 0 j (grown keys m mustGrown (self₀ .must)))
-    × (self .may ≡ patch (self₀ .may) 0 j (grown keys m (mayGrown ways) (self₀ .may))))
+Inv-loop columns m self₀ h g key j₀ self j =
+    (j ≤ mostBlocks) × ((self .must ≡ patch (self₀ .must) 0 j (grown columns m (λ j. mustGrown) (self₀ .must)))
+    × (self .may ≡ patch (self₀ .may) 0 j (grown columns m (mayLimited columns) (self₀ .may))))
 
 abbrev μ-loop : tie.MeasureT-loop
-μ-loop ways keys m self₀ h g key j₀ self j = mostBlocks - j
+μ-loop columns m self₀ h g key j₀ self j = mostBlocks - j
 
 element-copy-out-h : tie.Need-element-copy-out-h Inv-loop μ-loop
 element-copy-out-h c = search needs
@@ -34,6 +39,12 @@ loop-holds c = search needs
 
 shared-slice-read-same : tie.Need-shared-slice-read-same Inv-loop μ-loop
 shared-slice-read-same c = search needs
+
+add-limit : tie.Need-add-limit Inv-loop μ-loop
+add-limit c = search needs
+
+shared-slice-read-limit : tie.Need-shared-slice-read-limit Inv-loop μ-loop
+shared-slice-read-limit c = search needs
 
 element-copy-out-must-age : tie.Need-element-copy-out-must-age Inv-loop μ-loop
 element-copy-out-must-age c = search needs
@@ -61,10 +72,10 @@ loop-less c = search needs
 
 loop-again : tie.Need-loop-again Inv-loop μ-loop
 loop-again c =
-    let a = c .before .before .before .before .before .before .before .before .before .before .before .args in
-    let l = c .before .before .before .before .before .before .loop in
-    let must = row-turn (now (a .keys)) (a .m) mustGrown (a .t1 .must) _ (l .j) _ (l .inv .1 .0) (c .before .before .must-age .ensures) in
-    let may = row-turn (now (a .keys)) (a .m) (mayGrown (a .ways)) (a .t1 .may) _ (l .j) _ (l .inv .1 .1) (c .may-age .ensures) in
+    let a = c .before .before .before .before .before .before .before .before .before .before .before .before .args in
+    let l = c .before .before .before .before .before .before .before .loop in
+    let must = row-turn (now (a .columns)) (a .m) (λ j. mustGrown) (a .t1 .must) _ (l .j) _ (l .inv .1 .0) (c .before .before .must-age .ensures) in
+    let may = row-turn (now (a .columns)) (a .m) (mayLimited (now (a .columns))) (a .t1 .may) _ (l .j) _ (l .inv .1 .1) (c .may-age .ensures) in
     (search needs, (must, may))
 
 element-write-self-3 : tie.Need-element-write-self-3 Inv-loop μ-loop
@@ -83,11 +94,11 @@ returns c =
     let may-long : length (a .t1 .may) ≡ mostBlocks = search needs in
     let must-end : l .j ≡ length (a .t1 .must) = omega arith in
     let may-end : l .j ≡ length (a .t1 .may) = omega arith in
-    let must = touched-row (now (a .keys)) (a .m) mustGrown (a .t1 .must) (omega (arith, pre .0)) _ _ (l .inv .1 .0) must-end in
-    let may = touched-row (now (a .keys)) (a .m) (mayGrown (a .ways)) (a .t1 .may) (omega (arith, pre .0)) _ _ (l .inv .1 .1) may-end in
+    let must = touched-row (now (a .columns)) (a .m) (λ j. mustGrown) (a .t1 .must) (omega (arith, pre .0)) _ _ (l .inv .1 .0) must-end in
+    let may = touched-row (now (a .columns)) (a .m) (mayLimited (now (a .columns))) (a .t1 .may) (omega (arith, pre .0)) _ _ (l .inv .1 .1) may-end in
     λ i. record {
-      must = (must ∙ ap (λ (n : ℕ). listOf n (mustAfter (λ k. getD (now (a .keys)) k 0) (a .m) (ageOf (a .t1 .must)))) must-long) i;
-      may = (may ∙ ap (λ (n : ℕ). listOf n (mayAfter (λ k. getD (now (a .keys)) k 0) (λ k. a .ways) (a .m) (ageOf (a .t1 .may)))) may-long) i;
+      must = (must ∙ ap (λ (n : ℕ). listOf n (mustAfter (λ k. getD (now (a .columns)) k 0) (a .m) (ageOf (a .t1 .must)))) must-long) i;
+      may = (may ∙ ap (λ (n : ℕ). listOf n (mayAfter (λ k. getD (now (a .columns)) k 0) (λ k. getD (now (a .columns)) (2 * mostBlocks + k) 0) (a .m) (ageOf (a .t1 .may)))) may-long) i;
     }
 
 pub touch-spec : {M : Type 1} → statement M
@@ -101,6 +112,8 @@ touch-spec =
     shared-slice-read-key
     loop-holds
     shared-slice-read-same
+    add-limit
+    shared-slice-read-limit
     element-copy-out-must-age
     must-age-requires
     element-write-self

@@ -1,6 +1,6 @@
 use borrow.Author.Needs.{needs}
 use mathlib.Core.Path.{_≡_, sym, _∙_}
-use Rattle.tables.specs.AgesFlow.{allPasses}
+use Rattle.chart.specs.Geometry.{allPasses}
 use Rattle.analysis.specs.Analysis.{Left, tableIn, analysed}
 use Rattle.report.specs.Report.{zeroBuffers}
 use Rattle.demands.proofs.Soundings.{loop-nodes}

@@ -6,7 +6,7 @@ use native.Mathlib.Omega.{arith}
 use denote.Ref.{now}
 use Rattle.lists.specs.Choice.{first, firstFrom}
 use Rattle.lists.proofs.Choice.{first-begins, first-passes, first-found, first-ends}
-use Rattle.totals.specs.Inner.{crossedAt}
+use Rattle.totals.specs.Totals.{crossedAt}
 use Rattle.totals.proofs.bounds.first_crossed.Statement.{statement}
 use Rattle.totals.proofs.bounds.first_crossed.Tie as tie
 

@@ -5,7 +5,7 @@ use native.Mathlib.Omega.{arith}
 use denote.Ref.{now}
 use Rattle.lists.specs.Choice.{first, firstFrom}
 use Rattle.lists.proofs.Choice.{first-begins, first-passes, first-found, first-ends}
-use Rattle.totals.specs.Inner.{floorAtUnmarked}
+use Rattle.totals.specs.Totals.{floorAtUnmarked}
 use Rattle.totals.proofs.bounds.first_floor_at_unmarked.Statement.{statement}
 use Rattle.totals.proofs.bounds.first_floor_at_unmarked.Tie as tie
 
@@ -20,14 +20,14 @@ loop-holds c =
     let a = c .args in
     (search needs, first-begins (a .nodes) (floorAtUnmarked (now (a .marks)) (now (a .floors))))
 
-shared-slice-read-marked : tie.Need-shared-slice-read-marked Inv-loop μ-loop
-shared-slice-read-marked c = search needs
+shared-slice-read-if1 : tie.Need-shared-slice-read-if1 Inv-loop μ-loop
+shared-slice-read-if1 c = search needs
 
-mul-bound : tie.Need-mul-bound Inv-loop μ-loop
-mul-bound c = search needs
+mul-if1 : tie.Need-mul-if1 Inv-loop μ-loop
+mul-if1 c = search needs
 
-shared-slice-read-bound : tie.Need-shared-slice-read-bound Inv-loop μ-loop
-shared-slice-read-bound c = search needs
+shared-slice-read-if1-2 : tie.Need-shared-slice-read-if1-2 Inv-loop μ-loop
+shared-slice-read-if1-2 c = search needs
 
 returns : tie.Need-returns Inv-loop μ-loop
 returns c =
@@ -61,9 +61,9 @@ first-floor-at-unmarked-spec =
     Inv-loop
     μ-loop
     loop-holds
-    shared-slice-read-marked
-    mul-bound
-    shared-slice-read-bound
+    shared-slice-read-if1
+    mul-if1
+    shared-slice-read-if1-2
     returns
     add-n
     loop-less

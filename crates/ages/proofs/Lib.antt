@@ -1,0 +1,4 @@
+pub mod Stepping
+pub mod Ageing
+pub mod Settled
+pub mod Charting

@@ -1,0 +1,7 @@
+// The plan of a chart and the flow of its ages: definitions, and a type that code shares with them.
+
+// A touch of a column's block, and whether it is a write.
+pub struct ColumnTouch {
+    pub column: usize,
+    pub write: bool,
+}

@@ -1,0 +1,5 @@
+pub mod Search
+pub mod Insertion
+pub mod Placed
+pub mod Shift
+pub mod Arrays

@@ -1,0 +1,58 @@
+// The blocks of a chart, in ascending order.
+ghost use mathlib.Core.Path.{_≡_};
+ghost use mathlib.Core.List.{[]};
+ghost use Prim.Native.Nat.{_≤_};
+ghost use lib.ListN.{length, take};
+ghost use Rattle.lists.specs.Lists.{padded};
+ghost use Rattle.blocks.specs.Blocks.{insertAll};
+ghost use Rattle.blocks.specs.Listing.{Listing, Laid};
+ghost use Rattle.chart.specs.Geometry.{mostBlocks};
+ghost use Rattle.chart.specs.Layout.{chartLength};
+ghost use Rattle.chart.specs.Record.{touchesOf, blocksOf};
+ghost use Rattle.chart.specs.Chart.{recordsIn};
+ghost use Rattle.chart.specs.Inner.{Gathers};
+use crate::records::Record;
+use crate::records::node_at;
+use crate::shape::Geometry;
+use blocks::put_block;
+
+// How many blocks there are, or the first node that brings one too many.
+pub enum Gathered {
+    Blocks(usize),
+    TooMany(usize),
+}
+
+// Puts the blocks that a record touches into the first `count` of the array, as `put_block` does one.
+fn put_record(blocks: &mut [u32], count: usize, geometry: Geometry, what: Record) -> usize
+    requires { ⌜ Listing mostBlocks count (now blocks) ⌝ }
+    ensures { λ r. ⌜ Laid mostBlocks (insertAll (blocksOf (touchesOf geometry what)) (take count (now (blocks .entry)))) r (now (blocks .exit)) ⌝ }
+{
+    let Record::Reference(reference) = what else {
+        return count;
+    };
+    put_block(
+        blocks,
+        Geometry::BLOCKS,
+        count,
+        geometry.block_of(reference.address),
+    )
+}
+
+// Gathers the blocks of all nodes into an array of zeros: what it holds after `TooMany` is not said.
+pub(crate) fn gather(chart: &[u8], geometry: Geometry, nodes: usize, blocks: &mut [u32]) -> Gathered
+    requires { ⌜ chartLength nodes ≤ length (now chart) ⌝ }
+    requires { ⌜ now blocks ≡ padded mostBlocks [] ⌝ }
+    ensures { λ r. ⌜ Gathers (recordsIn (now (chart .entry))) geometry nodes r (now (blocks .exit)) ⌝ }
+{
+    let mut count = 0;
+    for n in 0..nodes {
+        let node = node_at(chart, n);
+        let what = node.what;
+        let more = put_record(blocks, count, geometry, what);
+        if Geometry::BLOCKS < more {
+            return Gathered::TooMany(n);
+        }
+        count = more;
+    }
+    Gathered::Blocks(count)
+}

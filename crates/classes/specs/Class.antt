@@ -1,0 +1,71 @@
+-- The classes. Document 01, "Ages and equations": "Class of a node, first that applies".
+use Prim.Native.Nat.{ℕ}
+use mathlib.Core.Bool.{Bool, true, false}
+use mathlib.Core.Logic.{_⊎_}
+use mathlib.Core.Path.{_≡_}
+use mathlib.Core.List.{List, [], _∷_}
+use lib.ListN.{getD}
+use lib.Dec.{ltb, eqb}
+use Rattle.lists.specs.Choice.{_⇒_, firstRule}
+use Rattle.lists.specs.Lists.{listOf}
+use Rattle.cache.specs.Ages.{Ages, ageOf}
+use Rattle.flow.specs.Flow.{Cell, blank, holds, cellAt}
+use Rattle.ages.specs.declared.ColumnTouch.{ColumnTouch}
+use Rattle.ages.specs.Plan.{Plan, columnsOf, touchesIn, touched}
+
+abbrev pub unreached : ℕ
+unreached = 0
+
+abbrev pub hit : ℕ
+hit = 1
+
+abbrev pub miss : ℕ
+miss = 2
+
+abbrev pub unsure : ℕ
+unsure = 3
+
+abbrev pub none : ℕ
+none = 4
+
+-- The class of a touch by the block's must and may age: "1 hit (must age below A), 2 miss (may age is A), 3 unsure". Document 01's A is
+-- here the most that the must age can be.
+unfoldable pub classBy : ℕ → ℕ → ℕ → ℕ
+classBy limit must may =
+    firstRule (λ class. class)
+    ((ltb must limit ⇒ hit)
+    ∷ (eqb may limit ⇒ miss)
+    ∷ [])
+    unsure
+
+-- The class of one touch, read from the state just before it.
+abbrev pub classOf : Plan → ColumnTouch → Ages → ℕ
+classOf plan touch a =
+    classBy (columnsOf plan .mustLimit (touch .column)) (ageOf (a .must) (touch .column)) (ageOf (a .may) (touch .column))
+
+-- The classes of touches in turn, for any kind of touch and state.
+abbrev pub classesBy : {E S : Type 0} → (E → S → ℕ) → (E → S → S) → List E → S → List ℕ
+classesBy classAt touchedBy [] a = []
+classesBy classAt touchedBy (touch ∷ touches) a = classAt touch a ∷ classesBy classAt touchedBy touches (touchedBy touch a)
+
+abbrev pub classesOf : Plan → List ColumnTouch → Ages → List ℕ
+classesOf plan touches a = classesBy (classOf plan) (touched plan) touches a
+
+-- The class of a node: "0 unreached (unmarked), 4 none (bare step)", else that of its touch.
+abbrev pub nodeClass : Plan → ℕ → Cell Ages → ℕ
+nodeClass plan n blank = unreached
+nodeClass plan n (holds a) = getD (classesOf plan (touchesIn plan n) a) 0 none
+
+-- The class of each node.
+abbrev pub tableClasses : Plan → List (Cell Ages) → List ℕ
+tableClasses plan table = listOf (plan .nodes) (λ n. nodeClass plan n (cellAt table n))
+
+-- What is called a hit is found, and what is called a miss is not.
+pub record CalledRight (class : ℕ) (found : Bool) : Type 0 where
+  pub hit-hits : class ≡ hit → found ≡ true
+  pub miss-misses : class ≡ miss → found ≡ false
+
+-- Each of these classes tells what is found: it is a hit or a miss.
+abbrev pub AllTold : List ℕ → Type 0
+AllTold [] = Unit {0}
+AllTold (class ∷ classes) = ((class ≡ hit) ⊎ (class ≡ miss)) × AllTold classes

@@ -1,0 +1,1 @@
+// The classes of touches and nodes: definitions and laws, no code.

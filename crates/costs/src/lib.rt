@@ -1,0 +1,1 @@
+// What classes cost, and the two totals of a table: definitions and laws, no code.

@@ -1,0 +1,157 @@
+-- Stores into a plan's lists: a turn of the loop over columns, the numbers of a node, and a turn of the loop over nodes.
+use Prim.Native.Nat.{ℕ, zero, suc, _+_, _*_, _/_, _%_, _≤_, _<_}
+use mathlib.Core.Bool.{Bool, true, false, cond}
+use mathlib.Core.List.{List}
+use mathlib.Core.Path.{_≡_, refl, sym, ap, subst, _∙_}
+use native.Mathlib.Omega.{arith}
+use borrow.Author.Count.{below-more}
+use lib.ListN.{length, getD, set, length-set}
+use lib.Seq.{getD-set-same, getD-set-other}
+use Rattle.lists.specs.Loops.{patch}
+use Rattle.lists.proofs.Loops.{patch-in}
+use Rattle.blocks.proofs.Search.{place-le}
+use Rattle.chart.specs.declared.shape.Geometry.{Geometry}
+use Rattle.chart.specs.declared.records.Node.{Node}
+use Rattle.chart.specs.declared.records.Record.{Record}
+use Rattle.chart.specs.declared.records.Record.the-variants as what
+use Rattle.chart.specs.Geometry.{mostBlocks, blockOf}
+use Rattle.chart.specs.Chart.{nodeAt}
+use Rattle.plan.specs.declared.Work.{Work}
+use Rattle.plan.specs.declared.Work.the-variants.{Step, Reference}
+use Rattle.plan.specs.declared.PlannedNode.{PlannedNode}
+use Rattle.plan.specs.Listed.{nodePlace, workOf, nodeFrom, nodeIn}
+use Rattle.drawing.specs.Columns.{firstAlike, ColumnsDrawn}
+use Rattle.drawing.specs.Nodes.{kindNumber, columnNumber, deedNumber, nodeNumbers, ColumnNarrow, Narrow, workBy, nodeBy, NodesDrawn}
+
+-- ---- columns
+
+module _ (l : List ℕ) (k key must may : ℕ) (few : k < mostBlocks) (long : 3 * mostBlocks ≤ length l) where
+  abbrev stored : List ℕ
+  stored = set (set (set l k key) (mostBlocks + k) must) (2 * mostBlocks + k) may
+
+  key-stored : getD stored k 0 ≡ key
+  key-stored =
+      getD-set-other (set (set l k key) (mostBlocks + k) must) (2 * mostBlocks + k) k may 0 (λ e. omega arith)
+      ∙ getD-set-other (set l k key) (mostBlocks + k) k must 0 (λ e. omega arith)
+      ∙ getD-set-same l k key 0 (omega arith)
+
+  must-stored : getD stored (mostBlocks + k) 0 ≡ must
+  must-stored =
+      getD-set-other (set (set l k key) (mostBlocks + k) must) (2 * mostBlocks + k) (mostBlocks + k) may 0 (λ e. omega arith)
+      ∙ getD-set-same (set l k key) (mostBlocks + k) must 0 (omega (arith, length-set l k key))
+
+  may-stored : getD stored (2 * mostBlocks + k) 0 ≡ may
+  may-stored =
+      getD-set-same (set (set l k key) (mostBlocks + k) must) (2 * mostBlocks + k) may 0 (omega (arith, length-set (set l k key) (mostBlocks + k) must, length-set l k key))
+
+  others-kept : (j : ℕ) → (j ≡ k → ⊥) → (j ≡ mostBlocks + k → ⊥) → (j ≡ 2 * mostBlocks + k → ⊥) → getD stored j 0 ≡ getD l j 0
+  others-kept j one two three =
+      getD-set-other (set (set l k key) (mostBlocks + k) must) (2 * mostBlocks + k) j may 0 three
+      ∙ getD-set-other (set l k key) (mostBlocks + k) j must 0 two
+      ∙ getD-set-other l k j key 0 one
+
+pub columns-turn : (sets : List ℕ) (limit k : ℕ) (l : List ℕ) (key : ℕ) → k < mostBlocks → 3 * mostBlocks ≤ length l
+    → ColumnsDrawn sets limit k l → key ≡ firstAlike sets k → ColumnsDrawn sets limit (k + 1) (set (set (set l k key) (mostBlocks + k) limit) (2 * mostBlocks + k) limit)
+columns-turn sets limit k l key few long drawn is =
+    let after : List ℕ = stored l k key limit limit few long in
+    let kept = others-kept l k key limit limit few long in
+    record {
+      keys = below-more (λ j. getD after j 0 ≡ firstAlike sets j) k (λ j h. kept j (λ e. omega arith) (λ e. omega arith) (λ e. omega arith) ∙ drawn .keys j h) (key-stored l k key limit limit few long ∙ is);
+      must-limits = below-more (λ j. getD after (mostBlocks + j) 0 ≡ limit) k (λ j h. kept (mostBlocks + j) (λ e. omega arith) (λ e. omega arith) (λ e. omega arith) ∙ drawn .must-limits j h) (must-stored l k key limit limit few long);
+      may-limits = below-more (λ j. getD after (2 * mostBlocks + j) 0 ≡ limit) k (λ j h. kept (2 * mostBlocks + j) (λ e. omega arith) (λ e. omega arith) (λ e. omega arith) ∙ drawn .may-limits j h) (may-stored l k key limit limit few long);
+    }
+
+-- ---- nodes
+
+-- What stands before the places that a loop stores at is as it was.
+patch-behind : (l : List ℕ) (base n : ℕ) (f : ℕ → ℕ) (k : ℕ) → k < base → getD (patch l base n f) k 0 ≡ getD l k 0
+patch-behind l base zero f k h = refl
+patch-behind l base (suc n) f k h =
+    getD-set-other (patch l base n f) (base + n) k (f n) 0 (λ e. omega arith) ∙ patch-behind l base n f k h
+
+-- A record, read back from its numbers.
+work-back : (work : Work) → workOf (kindNumber work) (columnNumber work) ≡ work
+work-back Step = refl
+work-back (Reference touch) = go (touch .write)
+  where
+    go : (write : Bool) → workOf (cond write 2 1) (touch .column) ≡ Reference (record { column = touch .column; write = write })
+    go true = refl
+    go false = refl
+
+kind-few : (work : Work) → kindNumber work < 4
+kind-few Step = omega arith
+kind-few (Reference touch) = go (touch .write)
+  where
+    go : (write : Bool) → cond write 2 1 < 4
+    go true = omega arith
+    go false = omega arith
+
+-- Kind, number of arrows and column, read back from the one number.
+deed-back : (kind outs column : ℕ) → kind < 4 → outs < 4
+    → (deedNumber kind outs column % 4 ≡ kind) × ((deedNumber kind outs column / 4 % 4 ≡ outs) × (deedNumber kind outs column / 16 ≡ column))
+deed-back kind outs column k o = (omega arith, (omega arith, omega arith))
+
+module _ (n : ℕ) (node : PlannedNode) (plan after : List ℕ) (narrow : Narrow node) (room : nodePlace n + 3 ≤ length plan) (put : after ≡ patch plan (nodePlace n) 3 (λ k. getD (nodeNumbers node) k 0)) where
+  number : (k : ℕ) → k < 3 → getD after (nodePlace n + k) 0 ≡ getD (nodeNumbers node) k 0
+  number k h = ap (λ (l : List ℕ). getD l (nodePlace n + k) 0) put ∙ patch-in plan (nodePlace n) 3 (λ j. getD (nodeNumbers node) j 0) k room h
+
+  deed : getD after (nodePlace n) 0 ≡ deedNumber (kindNumber (node .work)) (node .targets .outs) (columnNumber (node .work))
+  deed = let here : nodePlace n + 0 ≡ nodePlace n = omega arith in rw here at (number 0 (omega arith))
+
+  node-back : nodeIn after n ≡ node
+  node-back =
+      let kind : ℕ = kindNumber (node .work) in
+      let outs : ℕ = node .targets .outs in
+      let column : ℕ = columnNumber (node .work) in
+      let back = deed-back kind outs column (kind-few (node .work)) (narrow .outs) in
+      (λ i. nodeFrom (deed i) (number 1 (omega arith) i) (number 2 (omega arith) i))
+      ∙ (λ i. record {
+        work = ((λ j. workOf (back .0 j) (back .1 .1 j)) ∙ work-back (node .work)) i;
+        targets = record { outs = back .1 .0 i; first = node .targets .first; second = node .targets .second };
+      })
+
+  before-kept : (k : ℕ) → k < nodePlace n → getD after k 0 ≡ getD plan k 0
+  before-kept k h = ap (λ (l : List ℕ). getD l k 0) put ∙ patch-behind plan (nodePlace n) 3 (λ j. getD (nodeNumbers node) j 0) k h
+
+  node-kept : (m : ℕ) → m < n → nodeIn after m ≡ nodeIn plan m
+  node-kept m h =
+      λ i. nodeFrom (before-kept (nodePlace m) (omega arith) i) (before-kept (nodePlace m + 1) (omega arith) i) (before-kept (nodePlace m + 2) (omega arith) i)
+
+  pub nodes-turn : (each : ℕ → PlannedNode) (start : List ℕ) → NodesDrawn n each start plan → node ≡ each n → NodesDrawn (n + 1) each start after
+  nodes-turn each start drawn is =
+      record {
+        head-kept = λ k h. before-kept k (omega arith) ∙ drawn .head-kept k h;
+        nodes = below-more (λ m. nodeIn after m ≡ each m) n (λ m h. node-kept m h ∙ drawn .nodes m h) (node-back ∙ is);
+      }
+
+pub nodes-none : (each : ℕ → PlannedNode) (plan : List ℕ) → NodesDrawn 0 each plan plan
+nodes-none each plan = record { head-kept = λ k h. refl; nodes = λ n h. absurd (omega arith) }
+
+pub columns-none : (sets : List ℕ) (limit : ℕ) (columns : List ℕ) → ColumnsDrawn sets limit 0 columns
+columns-none sets limit columns =
+    record {
+      keys = λ k h. absurd (omega arith);
+      must-limits = λ k h. absurd (omega arith);
+      may-limits = λ k h. absurd (omega arith);
+    }
+
+-- ---- what a chart's node does
+
+-- A chart's node as the functions work it out: with its record's work, and the arrows as they are.
+module _ (geometry : Geometry) (blocks bytes : List ℕ) (n : ℕ) (node : Node) (work : Work) (read : node ≡ nodeAt bytes n) (worked : work ≡ workBy geometry blocks (node .what)) where
+  pub node-planned : record { work = work; targets = node .targets } ≡ nodeBy geometry blocks (nodeAt bytes n)
+  node-planned = (λ i. record { work = worked i; targets = node .targets }) ∙ ap (nodeBy geometry blocks) read
+
+  work-narrow : length blocks ≤ mostBlocks → (what : Record) → ColumnNarrow (workBy geometry blocks what)
+  work-narrow few what.Step = tt
+  work-narrow few (what.Reference reference) = omega (arith, place-le (blockOf geometry (reference .address)) blocks)
+
+  pub node-narrow : length blocks ≤ mostBlocks → Narrow (record { work = work; targets = node .targets })
+  node-narrow few =
+      subst Narrow (sym node-planned)
+      (record {
+        column = work-narrow few (nodeAt bytes n .what);
+        outs = omega arith;
+        first = omega arith;
+        second = omega arith;
+      })

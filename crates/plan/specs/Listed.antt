@@ -1,0 +1,93 @@
+-- A plan as two flat lists of numbers. Nothing here is document 01's: it says which plan two lists hold.
+-- `columns` has three runs, each with room for the most blocks: set keys, must limits, may limits. `plan` begins with N, B, the entry and
+-- 1 for an empty start; three numbers follow for each node. The first has its kind, as document 01 numbers it, in two bits, how many arrows
+-- it has in the next two, and above them the column of its block; the others say where the two arrows lead.
+use Prim.Native.Nat.{ℕ, _+_, _*_, _/_, _%_, _≤_, _<_}
+use mathlib.Core.Bool.{Bool, not, cond}
+use mathlib.Core.List.{List, [], _∷_}
+use lib.ListN.{getD, length}
+use lib.Dec.{eqb}
+use Rattle.lists.specs.Lists.{listOf}
+use Rattle.lists.specs.Slices.{Passed, Slice}
+use Rattle.chart.specs.Geometry.{mostNodes, mostBlocks}
+use Rattle.chart.specs.Record.{arrowsOf}
+use Rattle.chart.specs.declared.records.Targets.{Targets}
+use Rattle.ages.specs.declared.ColumnTouch.{ColumnTouch}
+use Rattle.ages.specs.Plan.{PlanNode, Plan, Sound}
+use Rattle.plan.specs.declared.Work.{Work}
+use Rattle.plan.specs.declared.Work.the-variants.{Step, Reference}
+use Rattle.plan.specs.declared.PlannedNode.{PlannedNode}
+use denote.Ref.{now}
+
+abbrev pub nodesIn : List ℕ → ℕ
+nodesIn plan = getD plan 0 0
+
+abbrev pub blocksIn : List ℕ → ℕ
+blocksIn plan = getD plan 1 0
+
+abbrev pub entryIn : List ℕ → ℕ
+entryIn plan = getD plan 2 0
+
+abbrev pub emptyIn : List ℕ → Bool
+emptyIn plan = not (eqb (getD plan 3 0) 0)
+
+-- Where the numbers of node n begin.
+abbrev pub nodePlace : ℕ → ℕ
+nodePlace n = 4 + 3 * n
+
+-- "0 bare step, 1 read, 2 write"
+abbrev pub workOf : ℕ → ℕ → Work
+workOf kind column = cond (eqb kind 0) Step (Reference (record { column = column; write = eqb kind 2 }))
+
+-- A node as the functions hand it on, by its three numbers.
+abbrev pub nodeFrom : ℕ → ℕ → ℕ → PlannedNode
+nodeFrom deed first second =
+    record {
+      work = workOf (deed % 4) (deed / 16);
+      targets = record { outs = deed / 4 % 4; first = first; second = second };
+    }
+
+abbrev pub nodeIn : List ℕ → ℕ → PlannedNode
+nodeIn plan n = nodeFrom (getD plan (nodePlace n) 0) (getD plan (nodePlace n + 1) 0) (getD plan (nodePlace n + 2) 0)
+
+-- "whatever works on references passes a bare step over"
+abbrev pub touchesBy : Work → List ColumnTouch
+touchesBy Step = []
+touchesBy (Reference touch) = touch ∷ []
+
+-- A reference is of one of the columns.
+abbrev pub WorkIn : ℕ → Work → Type 0
+WorkIn count Step = Unit {0}
+WorkIn count (Reference touch) = touch .column < count
+
+abbrev pub planNode : PlannedNode → PlanNode
+planNode node = record { touches = touchesBy (node .work); arrows = arrowsOf (node .targets) }
+
+-- The plan that two lists hold.
+abbrev pub planIn : List ℕ → List ℕ → Plan
+planIn columns plan =
+    record {
+      nodes = nodesIn plan;
+      blocks = blocksIn plan;
+      entry = entryIn plan;
+      empty = emptyIn plan;
+      keys = listOf (blocksIn plan) (λ column. getD columns column 0);
+      mustLimits = listOf (blocksIn plan) (λ column. getD columns (mostBlocks + column) 0);
+      mayLimits = listOf (blocksIn plan) (λ column. getD columns (2 * mostBlocks + column) 0);
+      steps = listOf (nodesIn plan) (λ n. planNode (nodeIn plan n));
+    }
+
+-- Lists that are long enough for the plan that they hold, which is sound and no larger than a chart's.
+pub record Drawn (columns plan : List ℕ) : Type 0 where
+  pub columns-long : 3 * mostBlocks ≤ length columns
+  pub plan-long : nodePlace (nodesIn plan) ≤ length plan
+  pub few-nodes : nodesIn plan ≤ mostNodes
+  pub few-blocks : blocksIn plan ≤ mostBlocks
+  pub sound : Sound (planIn columns plan)
+
+-- The same of slices, as a `requires` and an `ensures` name them.
+abbrev pub DrawnIn : Passed → Passed → Type 0
+DrawnIn columns plan = Drawn (now columns) (now plan)
+
+abbrev pub planAt : Slice → Slice → Plan
+planAt columns plan = planIn (now (columns .entry)) (now (plan .entry))

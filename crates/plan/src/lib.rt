@@ -1,0 +1,106 @@
+// A plan as two flat lists, which the functions on tables are handed: `columns` has what they need of each block, `plan` the rest.
+ghost use mathlib.Core.Path.{_≡_};
+ghost use Prim.Native.Nat.{_+_, _≤_, _<_};
+ghost use lib.ListN.{length};
+ghost use Rattle.plan.specs.Listed.{nodesIn, blocksIn, entryIn, emptyIn, workOf, nodePlace, nodeIn};
+use ages::ColumnTouch;
+use chart::Geometry;
+use chart::Targets;
+
+// The length of `columns`: a key, a must limit and a may limit for each block of the most that there can be, in three runs.
+pub const COLUMNS: usize = 3 * Geometry::BLOCKS;
+
+// Where the runs of must and of may limits begin; the keys come first.
+pub const MUST_LIMITS: usize = Geometry::BLOCKS;
+
+pub const MAY_LIMITS: usize = 2 * Geometry::BLOCKS;
+
+// The length of `plan`: N, B, the entry and 1 for an empty start, then what each node does.
+pub const LENGTH: usize = HEAD + NODE * Geometry::NODES;
+
+// How many numbers stand before the first node, and how many each node has: what it does and how many arrows it has, and its two targets.
+pub const HEAD: usize = 4;
+
+pub const NODE: usize = 3;
+
+// What a record does: a bare step, or a reference to the block in a column.
+pub enum Work {
+    Step,
+    Reference(ColumnTouch),
+}
+
+// What a node does, and where its arrows lead.
+pub struct PlannedNode {
+    pub work: Work,
+    pub targets: Targets,
+}
+
+fn wide(number: u16) -> usize
+    ensures { λ r. ⌜ r ≡ number ⌝ }
+{
+    number as usize
+}
+
+// The number of nodes.
+pub fn nodes_in(plan: &[u16]) -> usize
+    requires { ⌜ 0 < length (now plan) ⌝ }
+    ensures { λ r. ⌜ r ≡ nodesIn (now (plan .entry)) ⌝ }
+{
+    wide(plan[0])
+}
+
+// The number of blocks.
+pub fn blocks_in(plan: &[u16]) -> usize
+    requires { ⌜ 1 < length (now plan) ⌝ }
+    ensures { λ r. ⌜ r ≡ blocksIn (now (plan .entry)) ⌝ }
+{
+    wide(plan[1])
+}
+
+// The entry.
+pub fn entry_in(plan: &[u16]) -> usize
+    requires { ⌜ 2 < length (now plan) ⌝ }
+    ensures { λ r. ⌜ r ≡ entryIn (now (plan .entry)) ⌝ }
+{
+    wide(plan[2])
+}
+
+// Whether the start is empty.
+pub fn empty_in(plan: &[u16]) -> bool
+    requires { ⌜ 3 < length (now plan) ⌝ }
+    ensures { λ r. ⌜ r ≡ emptyIn (now (plan .entry)) ⌝ }
+{
+    plan[3] != 0
+}
+
+// What a node of this kind does to this column: kind 0 is a bare step, 1 a read, 2 a write.
+fn work_of(kind: usize, column: usize) -> Work
+    ensures { λ r. ⌜ r ≡ workOf kind column ⌝ }
+{
+    if kind == 0 {
+        return Work::Step;
+    }
+    Work::Reference(ColumnTouch {
+        column: column,
+        write: kind == 2,
+    })
+}
+
+// What node n does.
+pub fn node_in(plan: &[u16], n: usize) -> PlannedNode
+    requires { ⌜ nodePlace n + 3 ≤ length (now plan) ⌝ }
+    ensures { λ r. ⌜ r ≡ nodeIn (now (plan .entry)) n ⌝ }
+{
+    let place = HEAD + NODE * n;
+    let deed = wide(plan[place]);
+    let work = work_of(deed % 4, deed / 16);
+    let targets = Targets {
+        outs: deed / 4 % 4,
+        first: wide(plan[place + 1]),
+        second: wide(plan[place + 2]),
+    };
+    PlannedNode {
+        work: work,
+        targets: targets,
+    }
+}

@@ -1,0 +1,92 @@
+-- A row that is loaded and taken through its node's record has the ages of the step, in the columns of the plan; the row of the start has
+-- the start's.
+use Prim.Native.Nat.{ℕ, _+_, _-_, _*_, _≤_, _<_, min}
+use mathlib.Core.Bool.{cond}
+use mathlib.Core.List.{List}
+use mathlib.Core.Path.{_≡_, sym, ap, subst, _∙_}
+use native.Mathlib.Omega.{arith}
+use lib.ListN.{length, getD, replicate}
+use Rattle.lists.specs.Lists.{listOf}
+use Rattle.lists.proofs.Listed.{length-listOf, getD-listOf}
+use Rattle.lists.proofs.Joined.{getD-written, row-in}
+use Rattle.chart.specs.Geometry.{mostBlocks}
+use Rattle.cache.specs.Ages.{Ages, ageOf, mustAfter, mayAfter, touchAges, startAges}
+use Rattle.cache.proofs.Touching.{touch-must, touch-may}
+use Rattle.flow.specs.Walk.{inTurn}
+use Rattle.layout.specs.Rows.{rowAt}
+use Rattle.ages.specs.declared.ColumnTouch.{ColumnTouch}
+use Rattle.ages.specs.Plan.{Plan, columnsOf, touched, planFlow}
+use Rattle.plan.specs.declared.Work.{Work}
+use Rattle.plan.specs.declared.Work.the-variants.{Step, Reference}
+use Rattle.plan.specs.Listed.{nodesIn, blocksIn, emptyIn, nodeIn, touchesBy, planIn, Drawn, WorkIn}
+use Rattle.plan.proofs.Holding.{touches-held, key-held, must-limit-held, may-limit-held, work-in}
+use Rattle.rows.specs.Rows.{columnsBy, agesIn, afterWork}
+use Rattle.tables.specs.Lent.{Lent, agesUsed, agesAt}
+use Rattle.tables.specs.Inner.{loaded, loadedRow, Loads, rowAfter}
+use Rattle.tables.proofs.Meeting.{Agree}
+
+-- What is loaded from row n on has the row's ages first.
+loaded-age : (count : ℕ) → count ≤ mostBlocks → (n : ℕ) (buffer : List ℕ) → n * count + count ≤ length buffer → (j : ℕ) → j < count → ageOf (loaded (n * count) buffer) j ≡ ageOf (rowAt count buffer n) j
+loaded-age count few n buffer room j h =
+    let all : ℕ = min mostBlocks (length buffer - n * count) in
+    let place : ℕ → ℕ = λ k. getD buffer (n * count + k) 0 in
+    let within : j < all = omega arith in
+    getD-written (listOf all place) (replicate mostBlocks 0) j 0 (omega (arith, length-listOf all place))
+    ∙ getD-listOf all place 0 j within
+    ∙ sym (getD-listOf count place 0 j h)
+
+module _ (columns plan : List ℕ) (drawn : Drawn columns plan) where
+  abbrev held : Plan
+  held = planIn columns plan
+
+  -- What a touch does to the first columns does not depend on how many more there are.
+  touch-agrees : (m : ℕ) → m < blocksIn plan → (row a : Ages) → Agree (blocksIn plan) row a
+      → Agree (blocksIn plan) (touchAges (columnsBy columns mostBlocks) m row) (touchAges (columnsOf held) m a)
+  unfolding mustAfter mayAfter
+  touch-agrees m inside row a agree =
+      record {
+        must = λ j h. rw (touch-must (columnsBy columns mostBlocks) m row j (omega (arith, drawn .few-blocks)), touch-must (columnsOf held) m a j h)
+            (rw (key-held columns plan j h, key-held columns plan m inside, agree .must j h, agree .must m inside));
+        may = λ j h. rw (touch-may (columnsBy columns mostBlocks) m row j (omega (arith, drawn .few-blocks)), touch-may (columnsOf held) m a j h)
+            (rw (key-held columns plan j h, key-held columns plan m inside, may-limit-held columns plan j h, agree .may j h, agree .may m inside));
+      }
+
+  work-agrees : (work : Work) → WorkIn (blocksIn plan) work → (row a : Ages) → Agree (blocksIn plan) row a
+      → Agree (blocksIn plan) (afterWork (columnsBy columns mostBlocks) work row) (inTurn (touched held) (touchesBy work) a)
+  work-agrees Step inside row a agree = agree
+  work-agrees (Reference touch) inside row a agree = touch-agrees (touch .column) inside row a agree
+
+  module _ (n : ℕ) (inside : n < nodesIn plan) (lent : Lent)
+      (must-room : agesUsed held ≤ length (lent .must)) (may-room : agesUsed held ≤ length (lent .may)) where
+    pub row-loads : Loads columns (lent .must) (lent .may) (blocksIn plan) n
+    row-loads =
+        let room = row-in n (nodesIn plan) (blocksIn plan) inside in
+        record { few = drawn .few-blocks; columns-long = drawn .columns-long; must-in = omega arith; may-in = omega arith }
+
+    -- A row that is loaded begins with the node's ages.
+    loaded-agrees : Agree (blocksIn plan) (agesIn (loadedRow (blocksIn plan) n (lent .must) (lent .may))) (agesAt held lent n)
+    loaded-agrees =
+        record {
+          must = loaded-age (blocksIn plan) (drawn .few-blocks) n (lent .must) (row-loads .must-in);
+          may = loaded-age (blocksIn plan) (drawn .few-blocks) n (lent .may) (row-loads .may-in);
+        }
+
+    pub after-agrees : Agree (blocksIn plan) (agesIn (rowAfter columns (lent .must) (lent .may) (blocksIn plan) n (nodeIn plan n .work))) (planFlow held .step n (agesAt held lent n))
+    after-agrees =
+        subst (Agree (blocksIn plan) (agesIn (rowAfter columns (lent .must) (lent .may) (blocksIn plan) n (nodeIn plan n .work))))
+        (ap (λ (ts : List ColumnTouch). inTurn (touched held) ts (agesAt held lent n)) (sym (touches-held columns plan n inside)))
+        (work-agrees (nodeIn plan n .work) (work-in columns plan drawn n inside) _ (agesAt held lent n) loaded-agrees)
+
+  pub start-agrees : Agree (blocksIn plan) (startAges (columnsBy columns mostBlocks) (emptyIn plan)) (planFlow held .start)
+  unfolding startAges
+  start-agrees =
+      record {
+        must = λ j h.
+            getD-listOf mostBlocks (columnsBy columns mostBlocks .mustLimit) 0 j (omega (arith, drawn .few-blocks))
+            ∙ sym (must-limit-held columns plan j h)
+            ∙ sym (getD-listOf (blocksIn plan) (columnsOf held .mustLimit) 0 j h);
+        may = λ j h.
+            getD-listOf mostBlocks (λ column. cond (emptyIn plan) (columnsBy columns mostBlocks .mayLimit column) 0) 0 j (omega (arith, drawn .few-blocks))
+            ∙ ap (λ (limit : ℕ). cond (emptyIn plan) limit 0) (sym (may-limit-held columns plan j h))
+            ∙ sym (getD-listOf (blocksIn plan) (λ column. cond (emptyIn plan) (columnsOf held .mayLimit column) 0) 0 j h);
+      }

@@ -1,0 +1,24 @@
+//! Document 01's limits, and what follows from them. All that is no part of the proof takes them from here.
+
+/// The most nodes of a chart.
+pub const NODES: usize = 256;
+
+/// The most blocks of a chart.
+pub const BLOCKS: usize = 64;
+
+/// The most ways of a set.
+pub const WAYS: usize = 8;
+
+/// Must ages, or may ages, of a chart that has the most nodes and blocks.
+pub const AGES: usize = NODES * BLOCKS;
+
+/// The bytes of a chart of so many nodes.
+pub const fn length(nodes: usize) -> usize {
+    8 + 8 * nodes
+}
+
+/// The bytes of the longest chart.
+pub const LONGEST: usize = length(NODES);
+
+/// No accepted chart needs more passes.
+pub const PASSES: usize = NODES * (1 + 2 * BLOCKS * WAYS) + 1;

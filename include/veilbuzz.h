@@ -8,10 +8,13 @@
  * allocate nothing, keep nothing between two calls and call nothing but memcpy and memset; calls with buffers of their own may run at
  * the same time.
  *
- * What a caller has to keep, since C cannot say it: behind each pointer there are as many elements as the length after it says, aligned
- * for their type and set to something; a buffer that is written overlaps no other of the same call, and nobody else touches it meanwhile;
- * no pointer is NULL, also where its length is 0 (malloc(0) may return NULL). Costs and bounds have 16 bits: C cuts a larger number
- * without a word, unless -Wconversion is given.
+ * What a caller has to keep, since C cannot say it:
+ *   - behind each pointer there are as many elements as the length after it says, set to something and aligned: uint16_t to 2 bytes,
+ *     uint32_t to 4, uint64_t to 8. Where the length is 0 nothing is looked at, and the pointer may be NULL;
+ *   - a buffer that is written overlaps no other of the same call; those that are only read may overlap. Where it does overlap, nothing is
+ *     promised: what is answered and left may be anything, and passes may go on for the whole allowance;
+ *   - while a call runs, nobody else writes to what it was lent, and nobody else reads what it writes.
+ * Costs and bounds have 16 bits: C cuts a larger number without a word, unless -Wconversion is given.
  *
  * Below, N is the chart's number of nodes, B its number of blocks, and A the ways in a set.
  */
@@ -40,8 +43,9 @@ enum {
 };
 
 /* An answer: numbers, in these places of `answer`. The first two are the same for every function; what comes after them is a function's
- * own, and is 0 after a refusal, 12 apart. A longer `answer` keeps its tail. One that is shorter than its function's answer stays as it
- * was: the work is done all the same and the refusal's number is returned, but the rest of the answer is lost. */
+ * own, and is 0 after a refusal, 12 apart. A longer `answer` keeps its tail. Where `answer` is shorter than its function's answer, or the
+ * `header` of veilbuzz_read shorter than a header, the function does nothing: it returns 11, whatever else might be refused, and nothing
+ * that was lent has changed, neither of these lists nor any other buffer. */
 enum {
     VEILBUZZ_ANSWER_NUMBER = 0, /* the refusal's number, 0 for none; also what the function returns */
     VEILBUZZ_ANSWER_PLACE = 1,  /* the node at fault for refusals 9, 10, 16 and 17, else 0 */
@@ -66,7 +70,7 @@ enum {
     VEILBUZZ_TOTAL_LENGTH = 4
 };
 
-/* The header that veilbuzz_read tells: six numbers, in these places of `header`. */
+/* The header that veilbuzz_read tells: six numbers, in these places of `header`. A longer one keeps its tail. */
 enum {
     VEILBUZZ_HEADER_LINE_BITS = 0, /* L: a line is 2^L bytes */
     VEILBUZZ_HEADER_SET_BITS = 1,  /* S: there are 2^S sets */
@@ -93,7 +97,8 @@ enum {
     VEILBUZZ_CLASS_NONE = 4       /* a bare step: there is no reference */
 };
 
-/* The refusals, looked for in this order; the first that applies is given.
+/* The refusals, looked for in this order; the first that applies is given. Only whether `answer` and `header` are too short is looked at
+ * before all others.
  *
  *   no.  exactly when                                           place        what to do
  *    1   the chart has fewer than 8 bytes                       0            give the whole file
@@ -105,9 +110,10 @@ enum {
  *    7   a spare bit of the header is set                       0            clear it
  *    8   it is not 8 + 8 N bytes long                           0            cut it, or add the missing records
  *    9   a record breaks its rules                              first such   mend that node's record
- *   10   it has more blocks than VEILBUZZ_MOST_BLOCKS           one too many split the chart
- *   11   a buffer is shorter than used; not of floors,          0            lend N, B or N * B elements, as said below
- *        ceilings, `header` and `answer`
+ *   10   it has more blocks than VEILBUZZ_MOST_BLOCKS: the      that node    split the chart
+ *        node, in node order, that brings the first too many
+ *   11   a buffer is shorter than used, floors and ceilings     0            lend N, B or N * B elements, as said below, and
+ *        apart                                                               the lengths named above for `answer` and `header`
  *   12   not settled within the allowance                       0            allow VEILBUZZ_ENOUGH_PASSES
  *   13   the table does not pass                                0            lend the one that veilbuzz_analyse wrote
  *   14   floors or ceilings are not exactly N long              0            one number for each node
@@ -116,9 +122,8 @@ enum {
  *   17   a floor is above 0 at an unmarked node                 first such   no walk comes there: make it 0
  */
 
-/* Reads a chart, as a caller does first who wants to know N and B: refusals 1 to 10. Where none of them applies, the header is told in
- * the first six places of `header`, and B in `answer`. A longer `header` keeps its tail; one of fewer than six places stays as it was,
- * and so does any after a refusal. */
+/* Reads a chart, as a caller does first who wants to know N and B: refusals 1 to 10, and 11 for `header` and `answer`. Where none of them
+ * applies, the header is told in the first six places of `header`, and B in `answer`. After a refusal `header` is as it was. */
 uint64_t veilbuzz_read(const uint8_t *chart, size_t chart_length,
                        uint64_t *header, size_t header_length,
                        uint64_t *answer, size_t answer_length);

@@ -96,29 +96,40 @@ static void headers(void) {
     IS(classes[4], VEILBUZZ_CLASS_UNSURE); /* from one that may have the block */
 }
 
-/* One place fewer than its length, and a list stays as it was; with it, the list has the number that is told last. */
+/* With one place fewer than its length 11 is returned, and no list has changed; with just so many a list has the number that is told last. */
 static void lengths(void) {
     static const uint16_t times[] = {1, 0, 0, 0, 1, 1, 1};
     static const uint64_t each[] = {VEILBUZZ_READ_LENGTH, VEILBUZZ_ANALYSE_LENGTH, VEILBUZZ_CHECK_LENGTH, VEILBUZZ_TOTAL_LENGTH};
     uint64_t longest = 0;
-    size_t less, k;
+    size_t less, fewer, k;
     seven(VEILBUZZ_START_EMPTY);
     analyse(7, VEILBUZZ_ENOUGH_PASSES);
     for (less = 2; less-- > 0;) {
-        memset(header, 0xFF, sizeof header);
+        const uint64_t number = less ? 11 : 0;
+        for (fewer = 2; fewer-- > 0;) {
+            const int short_of = less || fewer;
+            memset(header, 0xFF, sizeof header);
+            memset(answer, 0xFF, sizeof answer);
+            IS(veilbuzz_read(chart, 64, header, VEILBUZZ_HEADER_LENGTH - less, answer, VEILBUZZ_READ_LENGTH - fewer), short_of ? 11 : 0);
+            IS(header[0], short_of ? UINT64_MAX : 5);
+            IS(header[VEILBUZZ_HEADER_LENGTH - 1], short_of ? UINT64_MAX : 4);
+            IS(answer[0], short_of ? UINT64_MAX : 0);
+            IS(answer[VEILBUZZ_READ_LENGTH - 1], short_of ? UINT64_MAX : 2);
+        }
         memset(answer, 0xFF, sizeof answer);
-        IS(veilbuzz_read(chart, 64, header, VEILBUZZ_HEADER_LENGTH - less, answer, VEILBUZZ_READ_LENGTH - less), 0);
-        IS(header[VEILBUZZ_HEADER_LENGTH - 1], less ? UINT64_MAX : 4);
-        IS(answer[VEILBUZZ_READ_LENGTH - 1], less ? UINT64_MAX : 2);
-        memset(answer, 0xFF, sizeof answer);
+        memset(classes, 0xFF, sizeof classes);
         IS(veilbuzz_analyse(chart, 64, VEILBUZZ_ENOUGH_PASSES, blocks, 2, must, 14, may, 14, marks, 7, classes, 7, answer,
-                            VEILBUZZ_ANALYSE_LENGTH - less), 0);
+                            VEILBUZZ_ANALYSE_LENGTH - less), number);
+        IS(answer[0], less ? UINT64_MAX : 0);
         IS(answer[VEILBUZZ_ANALYSE_LENGTH - 1], less ? UINT64_MAX : 2);
+        IS(classes[4], less ? 0xFF : VEILBUZZ_CLASS_MISS);
         memset(answer, 0xFF, sizeof answer);
-        IS(veilbuzz_check(chart, 64, must, 14, may, 14, marks, 7, answer, VEILBUZZ_CHECK_LENGTH - less), 0);
+        IS(veilbuzz_check(chart, 64, must, 14, may, 14, marks, 7, answer, VEILBUZZ_CHECK_LENGTH - less), number);
+        IS(answer[0], less ? UINT64_MAX : 0);
         IS(answer[VEILBUZZ_CHECK_LENGTH - 1], less ? UINT64_MAX : 1);
         memset(answer, 0xFF, sizeof answer);
-        IS(veilbuzz_total(chart, 64, must, 14, may, 14, marks, 7, 1, 10, times, 7, times, 7, answer, VEILBUZZ_TOTAL_LENGTH - less), 0);
+        IS(veilbuzz_total(chart, 64, must, 14, may, 14, marks, 7, 1, 10, times, 7, times, 7, answer, VEILBUZZ_TOTAL_LENGTH - less), number);
+        IS(answer[0], less ? UINT64_MAX : 0);
         IS(answer[VEILBUZZ_TOTAL_LENGTH - 1], less ? UINT64_MAX : 21);
     }
     for (k = 0; k < sizeof each / sizeof *each; k++)

@@ -3,9 +3,9 @@
  *     record 20000 >cases && replay <cases
  *
  * It knows nothing of charts. A case is the function's number, the allowance, the two costs and the number to be returned, and then each
- * buffer in the order of the parameters: whether it is read or written, its element's size, the byte that its filling begins with, its
- * length, how much of it is used, and the used part (before the call where it is read, after it where it is written). Each buffer
- * is lent in memory of just its size. */
+ * buffer in the order of the parameters: whether it is read, written or not even looked at, its element's size, the byte that its filling
+ * begins with, its length, how much of it is used, and the used part (after the call where it is written, else before it). Each buffer is
+ * lent in memory of just its size, and one of no size as NULL. */
 #include <stdio.h>
 #include <stdlib.h>
 
@@ -13,10 +13,11 @@
 #include "watched.h"
 
 enum function { READ = 1, ANALYSE, CHECK, TOTAL };
+enum access { READS, WRITES, IGNORES };
 enum { MOST_BUFFERS = 7, SHOWN = 10 };
 
 struct buffer {
-    int written;
+    int access;
     size_t size, length, used; /* of an element, in elements, in elements */
     uint8_t fill;
     uint8_t *known; /* the used part */
@@ -45,8 +46,8 @@ static uint64_t take_number(void) {
 }
 
 static uint8_t *reserve(size_t size) {
-    uint8_t *memory = malloc(size);
-    if (memory == NULL)
+    uint8_t *memory = size == 0 ? NULL : malloc(size);
+    if (memory == NULL && size != 0)
         stop("there is no memory");
     return memory;
 }
@@ -60,7 +61,7 @@ static void prepare(struct buffer *buffer) {
     uint8_t shape[3], *lent;
     size_t whole, used, place;
     take(shape, sizeof shape);
-    buffer->written = shape[0];
+    buffer->access = shape[0];
     buffer->size = shape[1];
     buffer->fill = shape[2];
     buffer->length = (size_t)take_number();
@@ -71,10 +72,12 @@ static void prepare(struct buffer *buffer) {
     take(buffer->known, used);
     buffer->lent = lent = reserve(whole);
     for (place = 0; place < whole; place++)
-        lent[place] = place < used && !buffer->written ? buffer->known[place] : filling(buffer, place);
-    if (buffer->written)
+        lent[place] = place < used && buffer->access != WRITES ? buffer->known[place] : filling(buffer, place);
+    if (buffer->access == WRITES)
         forget(lent, whole);
-    else
+    else if (buffer->access == IGNORES)
+        forbid(lent, whole);
+    else if (used < whole)
         forbid(lent + used, whole - used);
 }
 
@@ -91,7 +94,8 @@ static void compare(const struct buffer *buffer, size_t number) {
     const size_t whole = buffer->length * buffer->size, used = buffer->used * buffer->size;
     const uint8_t *left = buffer->lent;
     size_t place;
-    demand(left, used);
+    if (buffer->access != IGNORES)
+        demand(left, used);
     allow(left, whole);
     for (place = 0; place < whole; place++) {
         const uint8_t expected = place < used ? buffer->known[place] : filling(buffer, place);

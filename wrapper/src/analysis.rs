@@ -1,5 +1,4 @@
 use crate::{analyse, read, Buffers, Class, Header, Refusal, Table, PASSES};
-use std::ops::Range;
 
 /// A settled analysis in buffers of its own, just as long as used.
 #[derive(Clone, Debug, PartialEq, Eq)]
@@ -55,17 +54,20 @@ impl Analysis {
         }
     }
 
-    /// The must ages on arrival at a node, one for each block.
-    pub fn must(&self, node: usize) -> &[u8] {
-        &self.must[self.row(node)]
+    /// The must ages on arrival at a node, one for each block; `None` where there is no such node.
+    pub fn must(&self, node: usize) -> Option<&[u8]> {
+        self.row(&self.must, node)
     }
 
-    /// The may ages on arrival at a node, one for each block.
-    pub fn may(&self, node: usize) -> &[u8] {
-        &self.may[self.row(node)]
+    /// The may ages on arrival at a node, one for each block; `None` where there is no such node.
+    pub fn may(&self, node: usize) -> Option<&[u8]> {
+        self.row(&self.may, node)
     }
 
-    fn row(&self, node: usize) -> Range<usize> {
-        node * self.blocks.len()..(node + 1) * self.blocks.len()
+    // by the marks, one for each node: unlike header and blocks they cannot be changed from outside
+    fn row<'a>(&self, ages: &'a [u8], node: usize) -> Option<&'a [u8]> {
+        let nodes = self.marks.len();
+        let blocks = ages.len() / nodes;
+        (node < nodes).then(|| &ages[node * blocks..][..blocks])
     }
 }

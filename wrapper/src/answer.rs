@@ -8,11 +8,12 @@ const _: () = assert!(usize::BITS == 64);
 pub struct Answer<const LENGTH: usize>([u64; LENGTH]);
 
 impl<const LENGTH: usize> Answer<LENGTH> {
-    /// What a function tells in the list that it is handed, by pointer and length.
+    /// What a function tells in the list that it is handed, by pointer and length. The list has room for all of its answer: without, the
+    /// function would return 11 and tell nothing, which is not to be taken for an answer of zeros.
     pub fn of(call: impl FnOnce(*mut u64, usize) -> u64) -> Self {
         let mut told = [0; LENGTH];
         let number = call(told.as_mut_ptr(), told.len());
-        debug_assert_eq!(number, told[raw::NUMBER]);
+        assert_eq!(number, told[raw::NUMBER], "what is returned is also told");
         Answer(told)
     }
 

@@ -2,8 +2,10 @@
 //! one place, and the tests show of each parameter that it is the one that its name says.
 //!
 //! What a caller has to keep: behind each pointer there are as many elements as the length after it says, aligned for their type and set
-//! to something; a buffer that is written overlaps no other of the same call, and nobody else touches it meanwhile; no pointer is null,
-//! also where its length is 0.
+//! to something, and where the length is 0 the pointer may be null; a buffer that is written overlaps no other of the same call; while a
+//! call runs, nobody else writes to what it was lent, and nobody else reads what it writes.
+//!
+//! A function that is lent fewer places for its answer than it has numbers, or for a header, returns 11 and does nothing else.
 
 /// In every answer: the refusal's number, 0 for none; also what the function returns.
 pub const NUMBER: usize = 0;

@@ -17,7 +17,7 @@ pub struct Bounds<'a> {
     pub ceilings: &'a [u16],
 }
 
-/// What a walk within the bounds costs, at least and at most.
+/// Two bounds: a walk that keeps within its floors and ceilings costs no less than `low` and no more than `high`.
 #[derive(Clone, Copy, Debug, PartialEq, Eq)]
 pub struct Totals {
     pub low: u64,

@@ -2,6 +2,7 @@
 
 mod lent;
 
+use charts::Chart;
 use lent::{chart, Lent, AGES, BLOCKS, NODES};
 use veilbuzz::{analyse, Analysis, Class, Refusal, Settled, Unsettled, PASSES};
 
@@ -90,11 +91,44 @@ fn an_analysis_with_buffers_of_its_own_has_the_same() {
         (table.must, table.may, table.marks),
         (&must[..AGES], &may[..AGES], &marks[..NODES])
     );
-    assert_eq!((analysis.must(1), analysis.may(1)), (&[0, 2, 2][..], &[0, 1, 1][..]));
+    assert_eq!(
+        (analysis.must(1), analysis.may(1)),
+        (Some(&[0, 2, 2][..]), Some(&[0, 1, 1][..]))
+    );
     assert_eq!(
         analysis.classes,
         [Class::Unsure, Class::Unsure, Class::Hit, Class::Unreached]
     );
     assert_eq!((analysis.header.nodes, analysis.header.blocks), (NODES, BLOCKS));
     assert_eq!(Analysis::of(&chart()[..7]).map_err(|refused| refused.number), Err(1));
+}
+
+#[test]
+fn only_a_node_that_there_is_has_a_row() {
+    let analysis = Analysis::of(&chart()).expect("the chart is accepted");
+    let Lent { must, may, .. } = Lent::settled();
+    for node in 0..NODES {
+        let row = node * BLOCKS..(node + 1) * BLOCKS;
+        assert_eq!(analysis.must(node), Some(&must[row.clone()]));
+        assert_eq!(analysis.may(node), Some(&may[row]));
+    }
+    let bare = Analysis::of(&Chart::steps(NODES).bytes()).expect("the chart is accepted");
+    let none: &[u8] = &[];
+    assert_eq!((bare.must(NODES - 1), bare.may(NODES - 1)), (Some(none), Some(none)));
+    let pair = Analysis::of(&Chart::straight(&[0x00, 0x10]).bytes()).expect("the chart is accepted");
+    // some of these, times the number of blocks, wrap around to a place that there is
+    for node in [NODES, NODES + 1, usize::MAX / BLOCKS + 1, 1 << 62, 1 << 63, usize::MAX] {
+        for analysis in [&analysis, &bare, &pair] {
+            assert_eq!((analysis.must(node), analysis.may(node)), (None, None), "node {node}");
+        }
+    }
+}
+
+#[test]
+fn rows_do_not_depend_on_what_a_caller_makes_of_the_rest() {
+    let mut analysis = Analysis::of(&chart()).expect("the chart is accepted");
+    analysis.header.nodes = usize::MAX;
+    analysis.blocks.clear();
+    assert_eq!(analysis.must(1), Some(&[0, 2, 2][..]));
+    assert_eq!(analysis.must(NODES), None);
 }

@@ -22,11 +22,19 @@ fn told(length: usize, numbers: &[u64]) -> Vec<u64> {
 
 const LENGTHS: Range<usize> = 0..10;
 
-/// Holds a function to the numbers of its answer, for lists of every length.
+/// What is returned where a list has no room for what is told in it.
+const NO_ROOM: u64 = 11;
+
+/// Holds a function to the numbers of its answer, for lists of every length: without room for all of them, to 11 and a list as it was.
 fn tells<const NUMBERS: usize>(numbers: [u64; NUMBERS], call: impl Fn(*mut u64, usize) -> u64) {
     for length in LENGTHS {
         let mut answer = list(length);
-        assert_eq!(call(answer.as_mut_ptr(), length), numbers[raw::NUMBER]);
+        let returned = if length < NUMBERS {
+            NO_ROOM
+        } else {
+            numbers[raw::NUMBER]
+        };
+        assert_eq!(call(answer.as_mut_ptr(), length), returned, "a list of {length}");
         assert_eq!(answer, told(length, &numbers), "a list of {length}");
     }
 }
@@ -54,21 +62,26 @@ fn read_tells_the_number_of_blocks() {
 }
 
 #[test]
-fn read_tells_six_numbers_of_a_header_if_there_is_room() {
+fn read_tells_six_numbers_of_a_header_and_does_nothing_without_room_for_them() {
     let bytes = chart();
-    for length in LENGTHS {
-        let mut header = list(length);
-        assert_eq!(read(&bytes, &mut header, [0; 3].as_mut_ptr(), 3), 0);
-        assert_eq!(header, told(length, &[4, 0, 2, 0, 4, 0]));
-        let mut header = list(length);
-        assert_eq!(read(&bytes[..39], &mut header, [0; 3].as_mut_ptr(), 3), 8);
-        assert_eq!(header, list(length));
+    for (chart, number, six) in [(&bytes[..], 0, &[4, 0, 2, 0, 4, 0][..]), (&bytes[..39], 8, &[])] {
+        for (length, places) in LENGTHS.flat_map(|length| LENGTHS.map(move |places| (length, places))) {
+            let (mut header, mut answer) = (list(length), list(places));
+            let returned = read(chart, &mut header, answer.as_mut_ptr(), places);
+            if length < raw::HEADER_LENGTH || places < raw::READ_LENGTH {
+                assert_eq!((returned, header, answer), (NO_ROOM, list(length), list(places)));
+            } else {
+                assert_eq!((returned, header), (number, told(length, six)));
+                assert_eq!(answer[raw::NUMBER], number);
+            }
+        }
     }
 }
 
+/// Without room for its answer the analysis leaves each buffer as it was.
 fn analyse(allowance: usize, answer: *mut u64, length: usize) -> u64 {
     let (chart, mut lent) = (chart(), Lent::fresh());
-    unsafe {
+    let returned = unsafe {
         raw::veilbuzz_analyse(
             chart.as_ptr(),
             chart.len(),
@@ -86,7 +99,9 @@ fn analyse(allowance: usize, answer: *mut u64, length: usize) -> u64 {
             answer,
             length,
         )
-    }
+    };
+    assert_eq!(lent == Lent::fresh(), length < raw::ANALYSE_LENGTH);
+    returned
 }
 
 #[test]

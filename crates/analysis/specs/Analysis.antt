@@ -142,3 +142,7 @@ analyseRead allowance buffers (refused refusal) = refuse buffers refusal
 
 unfoldable pub analysed : List ℕ → ℕ → Buffers → Left
 analysed bytes allowance buffers = analyseRead allowance buffers (readChart bytes)
+
+-- The same in numbers.
+abbrev pub analyseSays : List ℕ → ℕ → Buffers → AnalysedSaid
+analyseSays bytes allowance buffers = analysedSays (analysed bytes allowance buffers .answer)

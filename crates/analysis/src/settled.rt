@@ -4,7 +4,7 @@ ghost use Prim.Native.Nat.{_≤_};
 ghost use lib.ListN.{length};
 ghost use Rattle.plan.specs.Listed.{nodesIn, DrawnIn, planAt};
 ghost use Rattle.tables.specs.Contract.{entryTable, exitTable, RoomFor};
-ghost use Rattle.analysis.specs.Analysis.{entryBuffers, exitLeft, analysed};
+ghost use Rattle.analysis.specs.Analysis.{entryBuffers, exitLeft, analysed, analysedSays, analyseSays};
 ghost use Rattle.analysis.specs.Inner.{Finishes};
 use crate::Analysed;
 use crate::buffers::clear;
@@ -65,6 +65,7 @@ pub fn analyse(
     classes: &mut [u8],
 ) -> Analysed
     ensures { λ r. ⌜ exitLeft blocks must may marks classes r ≡ analysed (now (chart .entry)) allowance (entryBuffers blocks must may marks classes) ⌝ }
+    ensures { λ r. ⌜ analysedSays r ≡ analyseSays (now (chart .entry)) allowance (entryBuffers blocks must may marks classes) ⌝ }
 {
     let mut columns = [0u8; plan::COLUMNS];
     let mut plan = [0u16; plan::LENGTH];

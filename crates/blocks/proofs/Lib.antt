@@ -3,3 +3,4 @@ pub mod Insertion
 pub mod Placed
 pub mod Shift
 pub mod Arrays
+pub mod Exact

@@ -1,7 +1,8 @@
 // The analysis as a C function.
 ghost use mathlib.Core.Path.{_≡_};
-ghost use Rattle.analysis.specs.Analysis.{entryBuffers, exitBuffers, analysedSays, analysed};
-ghost use Rattle.boundary.specs.Told.{told, analysedNumbers};
+ghost use Rattle.analysis.specs.Analysis.{entryBuffers, exitBuffers, analysedSays, analysed, analyseSays};
+ghost use Rattle.boundary.specs.Told.{analysedShort, returned, left, told, analysedNumbers};
+use crate::telling::no_room;
 use crate::telling::tell;
 use analysis::Analysed;
 use refusals::Refusal;
@@ -26,7 +27,8 @@ fn analysed_numbers(answer: Analysed) -> [u64; 4]
     }
 }
 
-// What `analysis::analyse` answers and leaves, the answer told in numbers; returned is the refusal's number, 0 for none.
+// What `analysis::analyse` answers and leaves, the answer told in numbers; returned is the refusal's number, 0 for none. Without room
+// to tell it, nothing is done, and 11 is returned.
 #[no_mangle]
 pub extern "C" fn veilbuzz_analyse(
     chart: &[u8],
@@ -38,10 +40,13 @@ pub extern "C" fn veilbuzz_analyse(
     classes: &mut [u8],
     answer: &mut [u64],
 ) -> u64
-    ensures { λ r. ⌜ r ≡ analysedSays (analysed (now (chart .entry)) allowance (entryBuffers blocks must may marks classes) .answer) .number ⌝ }
-    ensures { λ r. ⌜ exitBuffers blocks must may marks classes ≡ analysed (now (chart .entry)) allowance (entryBuffers blocks must may marks classes) .buffers ⌝ }
-    ensures { λ r. ⌜ now (answer .exit) ≡ told (analysedNumbers (analysedSays (analysed (now (chart .entry)) allowance (entryBuffers blocks must may marks classes) .answer))) (now (answer .entry)) ⌝ }
+    ensures { λ r. ⌜ r ≡ returned (analysedShort (now (answer .entry))) (analyseSays (now (chart .entry)) allowance (entryBuffers blocks must may marks classes) .number) ⌝ }
+    ensures { λ r. ⌜ exitBuffers blocks must may marks classes ≡ left (analysedShort (now (answer .entry))) (entryBuffers blocks must may marks classes) (analysed (now (chart .entry)) allowance (entryBuffers blocks must may marks classes) .buffers) ⌝ }
+    ensures { λ r. ⌜ now (answer .exit) ≡ told (analysedShort (now (answer .entry))) (analysedNumbers (analyseSays (now (chart .entry)) allowance (entryBuffers blocks must may marks classes))) (now (answer .entry)) ⌝ }
 {
+    if answer.len() < 4 {
+        return no_room();
+    }
     let given = analysis::analyse(chart, allowance, blocks, must, may, marks, classes);
     let numbers = analysed_numbers(given);
     tell(&numbers, answer);

@@ -1,8 +1,9 @@
 // The checker as a C function.
 ghost use mathlib.Core.Path.{_≡_};
 ghost use Rattle.tables.specs.Contract.{entryTable};
-ghost use Rattle.checker.specs.Checker.{checkedSays, checked};
-ghost use Rattle.boundary.specs.Told.{told, checkedNumbers};
+ghost use Rattle.checker.specs.Checker.{checkedSays, checkSays};
+ghost use Rattle.boundary.specs.Told.{checkedShort, returned, told, checkedNumbers};
+use crate::telling::no_room;
 use crate::telling::tell;
 use checker::Checked;
 
@@ -21,7 +22,8 @@ fn checked_numbers(answer: Checked) -> [u64; 3]
     }
 }
 
-// What `checker::check` answers, told in numbers; returned is the refusal's number, 0 for none.
+// What `checker::check` answers, told in numbers; returned is the refusal's number, 0 for none. Without room to tell it, nothing is
+// done, and 11 is returned.
 #[no_mangle]
 pub extern "C" fn veilbuzz_check(
     chart: &[u8],
@@ -30,9 +32,12 @@ pub extern "C" fn veilbuzz_check(
     marks: &[u8],
     answer: &mut [u64],
 ) -> u64
-    ensures { λ r. ⌜ r ≡ checkedSays (checked (now (chart .entry)) (entryTable must may marks)) .number ⌝ }
-    ensures { λ r. ⌜ now (answer .exit) ≡ told (checkedNumbers (checkedSays (checked (now (chart .entry)) (entryTable must may marks)))) (now (answer .entry)) ⌝ }
+    ensures { λ r. ⌜ r ≡ returned (checkedShort (now (answer .entry))) (checkSays (now (chart .entry)) (entryTable must may marks) .number) ⌝ }
+    ensures { λ r. ⌜ now (answer .exit) ≡ told (checkedShort (now (answer .entry))) (checkedNumbers (checkSays (now (chart .entry)) (entryTable must may marks))) (now (answer .entry)) ⌝ }
 {
+    if answer.len() < 3 {
+        return no_room();
+    }
     let numbers = checked_numbers(checker::check(chart, must, may, marks));
     tell(&numbers, answer);
     numbers[0]

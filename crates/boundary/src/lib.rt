@@ -1,7 +1,7 @@
 // The library for callers in other languages: numbers, and runs of numbers with their lengths. include/veilbuzz.h declares it in C.
 //
-// A caller answers for it that each pointer, which is not null, has its length behind it, aligned and set to something, that no buffer
-// that is written overlaps another, and that nobody else touches one meanwhile.
+// A caller answers for it that each pointer has its length behind it, aligned and set to something, that no buffer that is written overlaps
+// another, and that nobody else writes to one meanwhile, or reads what is written.
 mod analysing;
 mod checking;
 mod reading;

@@ -1,7 +1,10 @@
 // The reader as a C function.
 ghost use mathlib.Core.Path.{_≡_};
-ghost use Rattle.chart.specs.Reading.{reading, verdictSays};
-ghost use Rattle.boundary.specs.Told.{told, readNumbers, headerTold};
+ghost use Prim.Native.Nat.{_≤_};
+ghost use lib.ListN.{length};
+ghost use Rattle.chart.specs.Reading.{reading, verdictSays, readSays};
+ghost use Rattle.boundary.specs.Told.{returned, left, told, readNumbers, headerTold, readShort};
+use crate::telling::no_room;
 use crate::telling::tell;
 use chart::Verdict;
 
@@ -21,6 +24,7 @@ fn verdict_numbers(verdict: Verdict) -> [u64; 3]
 
 // The header of an accepted chart into a lent list.
 fn tell_header(verdict: Verdict, lent: &mut [u64])
+    requires { ⌜ 6 ≤ length (now lent) ⌝ }
     ensures { λ _. ⌜ now (lent .exit) ≡ headerTold verdict (now (lent .entry)) ⌝ }
 {
     let Verdict::Accepted(header, _) = verdict else {
@@ -38,13 +42,18 @@ fn tell_header(verdict: Verdict, lent: &mut [u64])
     tell(&numbers, lent);
 }
 
-// What `chart::read` answers, told in numbers, and the header; returned is the refusal's number, 0 for none.
+// What `chart::read` answers, told in numbers, and the header; returned is the refusal's number, 0 for none. Without room to tell both,
+// nothing is done, and 11 is returned.
 #[no_mangle]
 pub extern "C" fn veilbuzz_read(chart: &[u8], header: &mut [u64], answer: &mut [u64]) -> u64
-    ensures { λ r. ⌜ r ≡ verdictSays (reading (now (chart .entry)) .verdict) .number ⌝ }
-    ensures { λ r. ⌜ now (header .exit) ≡ headerTold (reading (now (chart .entry)) .verdict) (now (header .entry)) ⌝ }
-    ensures { λ r. ⌜ now (answer .exit) ≡ told (readNumbers (verdictSays (reading (now (chart .entry)) .verdict))) (now (answer .entry)) ⌝ }
+    ensures { λ r. ⌜ r ≡ returned (readShort (now (header .entry)) (now (answer .entry))) (readSays (now (chart .entry)) .number) ⌝ }
+    ensures { λ r. ⌜ now (header .exit) ≡ left (readShort (now (header .entry)) (now (answer .entry))) (now (header .entry)) (headerTold (reading (now (chart .entry)) .verdict) (now (header .entry))) ⌝ }
+    ensures { λ r. ⌜ now (answer .exit) ≡ told (readShort (now (header .entry)) (now (answer .entry))) (readNumbers (readSays (now (chart .entry)))) (now (answer .entry)) ⌝ }
 {
+    let short = (header.len() < 6) | (answer.len() < 3);
+    if short {
+        return no_room();
+    }
     let verdict = chart::read(chart).verdict;
     tell_header(verdict, header);
     let numbers = verdict_numbers(verdict);

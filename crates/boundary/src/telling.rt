@@ -1,15 +1,26 @@
 // Numbers told in a lent list.
 ghost use mathlib.Core.Path.{_≡_};
-ghost use Rattle.boundary.specs.Told.{told};
+ghost use Prim.Native.Nat.{_≤_};
+ghost use lib.ListN.{length};
+ghost use Rattle.refusals.specs.declared.Refusal.the-variants.{ShortBuffer};
+ghost use Rattle.refusals.specs.Refusals.{numberOf};
+ghost use Rattle.lists.specs.Lists.{written};
+use refusals::Refusal;
 
-// The numbers at the start of a lent list; one without room for them stays as it is.
+// What is returned where a list is too short for what is told in it.
+pub(crate) fn no_room() -> u64
+    ensures { λ r. ⌜ r ≡ numberOf ShortBuffer ⌝ }
+{
+    let refusal = Refusal::ShortBuffer;
+    refusal.number()
+}
+
+// The numbers at the start of a lent list.
 pub(crate) fn tell(numbers: &[u64], lent: &mut [u64])
-    ensures { λ _. ⌜ now (lent .exit) ≡ told (now (numbers .entry)) (now (lent .entry)) ⌝ }
+    requires { ⌜ length (now numbers) ≤ length (now lent) ⌝ }
+    ensures { λ _. ⌜ now (lent .exit) ≡ written (now (numbers .entry)) (now (lent .entry)) ⌝ }
 {
     let count = numbers.len();
-    if lent.len() < count {
-        return;
-    }
     for k in 0..count {
         lent[k] = numbers[k];
     }

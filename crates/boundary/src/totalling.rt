@@ -1,8 +1,9 @@
 // The totals as a C function.
 ghost use mathlib.Core.Path.{_≡_};
 ghost use Rattle.tables.specs.Contract.{entryTable};
-ghost use Rattle.totals.specs.Totals.{entryPrices, totalsSay, totals};
-ghost use Rattle.boundary.specs.Told.{told, totalsNumbers};
+ghost use Rattle.totals.specs.Totals.{entryPrices, totalsSay, totalSays};
+ghost use Rattle.boundary.specs.Told.{totalsShort, returned, told, totalsNumbers};
+use crate::telling::no_room;
 use crate::telling::tell;
 use totals::Totals;
 
@@ -20,7 +21,8 @@ fn totals_numbers(answer: Totals) -> [u64; 4]
     }
 }
 
-// What `totals::total` answers, told in numbers; returned is the refusal's number, 0 for none.
+// What `totals::total` answers, told in numbers; returned is the refusal's number, 0 for none. Without room to tell it, nothing is
+// done, and 11 is returned.
 #[no_mangle]
 pub extern "C" fn veilbuzz_total(
     chart: &[u8],
@@ -33,9 +35,12 @@ pub extern "C" fn veilbuzz_total(
     ceilings: &[u16],
     answer: &mut [u64],
 ) -> u64
-    ensures { λ r. ⌜ r ≡ totalsSay (totals (now (chart .entry)) (entryTable must may marks) (entryPrices hit miss floors ceilings)) .number ⌝ }
-    ensures { λ r. ⌜ now (answer .exit) ≡ told (totalsNumbers (totalsSay (totals (now (chart .entry)) (entryTable must may marks) (entryPrices hit miss floors ceilings)))) (now (answer .entry)) ⌝ }
+    ensures { λ r. ⌜ r ≡ returned (totalsShort (now (answer .entry))) (totalSays (now (chart .entry)) (entryTable must may marks) (entryPrices hit miss floors ceilings) .number) ⌝ }
+    ensures { λ r. ⌜ now (answer .exit) ≡ told (totalsShort (now (answer .entry))) (totalsNumbers (totalSays (now (chart .entry)) (entryTable must may marks) (entryPrices hit miss floors ceilings))) (now (answer .entry)) ⌝ }
 {
+    if answer.len() < 4 {
+        return no_room();
+    }
     let numbers = totals_numbers(totals::total(
         chart,
         must,

@@ -3,3 +3,7 @@ pub mod Rules
 pub mod Reader
 pub mod Accepted
 pub mod Answers
+pub mod Bytes
+pub mod Refusing
+pub mod Saying
+pub mod Sounded

@@ -15,7 +15,7 @@ use Rattle.chart.specs.declared.headers.HeaderRead.{HeaderRead}
 use Rattle.chart.specs.declared.headers.HeaderRead.the-variants.{Accepted, Refused}
 use Rattle.refusals.specs.declared.Refusal.{Refusal}
 use Rattle.refusals.specs.declared.Refusal.the-variants.{TooShort, Edition, Shape, StartCode, NodeCount, EntryNode, SpareBits, Length}
-use Rattle.refusals.specs.Refusals.{Said, refusalSays, noRefusal}
+use Rattle.refusals.specs.Refusals.{numberOf, placeOf}
 use Rattle.chart.specs.Layout.{wordAt, chartLength, field, headerWidths}
 use Rattle.chart.specs.Geometry.{mostNodes, between, shapeAllowed}
 
@@ -84,7 +84,26 @@ bytesRules bytes =
 unfoldable pub headerRead : List ℕ → HeaderRead
 headerRead bytes = firstRule Refused (bytesRules bytes) (Accepted (headerIn bytes))
 
--- This paper's number and place for each answer.
-abbrev pub headerSays : HeaderRead → Said
-headerSays (Accepted header) = noRefusal
-headerSays (Refused refusal) = refusalSays refusal
+-- A header in numbers: L, S, A, the start's code, N and the entry, in the order of the table of fields.
+abbrev pub headerNumbers : Header → List ℕ
+headerNumbers header =
+    header .geometry .line
+    ∷ header .geometry .sets
+    ∷ header .geometry .ways
+    ∷ startCode (header .start)
+    ∷ header .nodes
+    ∷ header .entry
+    ∷ []
+
+-- An answer in this paper's numbers: number and place, both 0 for no refusal, then the header's; none after a refusal.
+pub record HeaderSaid : Type 0 where
+  pub number : ℕ
+  pub place : ℕ
+  pub header : List ℕ
+
+abbrev pub headerSays : HeaderRead → HeaderSaid
+headerSays (Accepted header) = record { number = 0; place = 0; header = headerNumbers header }
+headerSays (Refused refusal) = record { number = numberOf refusal; place = placeOf refusal; header = [] }
+
+abbrev pub readHeaderSays : List ℕ → HeaderSaid
+readHeaderSays bytes = headerSays (headerRead bytes)

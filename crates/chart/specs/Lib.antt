@@ -5,3 +5,7 @@ pub mod Record
 pub mod Chart
 pub mod Reading
 pub mod Inner
+pub mod Bytes
+pub mod Refusing
+pub mod Saying
+pub mod Sounded

@@ -30,7 +30,7 @@ abbrev pub arrowKeeps : ℕ → Bool → ℕ → Bool
 arrowKeeps nodes used target = cond used (ltb target nodes) (eqb target 0)
 
 -- The rules of a record in a chart of so many nodes, of any fields, whether or not a word can hold them: kind 0, 1 or 2; an address of
--- 32 bits, as every address in a word is, so that the reader need not test it; "a bare step has address 0"; 0, 1 or 2 arrows; each arrow's rule; the spare bits zero.
+-- 32 bits, as every address in a word is; "a bare step has address 0"; 0, 1 or 2 arrows; each arrow's rule; the spare bits zero.
 unfoldable pub recordKeeps : ℕ → RecordFields → Bool
 recordKeeps nodes fields =
     leb (fields .kind) 2

@@ -3,7 +3,7 @@ ghost use mathlib.Core.Path.{_≡_};
 ghost use mathlib.Core.Bool.{true};
 ghost use Rattle.lists.specs.Choice.{firstRule};
 ghost use Rattle.chart.specs.Geometry.{shapeAllowed};
-ghost use Rattle.chart.specs.Header.{headerFields, geometryOf, startOf, startCode, headerOf, headerRules, headerRead};
+ghost use Rattle.chart.specs.Header.{headerFields, geometryOf, startOf, startCode, headerOf, headerRules, headerRead, headerSays, readHeaderSays};
 use crate::shape::Geometry;
 use crate::words::bits;
 use crate::words::word_at;
@@ -145,6 +145,7 @@ fn header_of(fields: HeaderFields, long: bool) -> HeaderRead
 // The header of any bytes, or the first of refusals 1 to 8 that applies.
 pub fn read_header(chart: &[u8]) -> HeaderRead
     ensures { λ r. ⌜ r ≡ headerRead (now (chart .entry)) ⌝ }
+    ensures { λ r. ⌜ headerSays r ≡ readHeaderSays (now (chart .entry)) ⌝ }
 {
     if chart.len() < 8 {
         return HeaderRead::Refused(Refusal::TooShort);

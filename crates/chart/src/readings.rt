@@ -3,7 +3,7 @@ ghost use mathlib.Core.Path.{_≡_};
 ghost use lib.ListN.{length};
 ghost use Rattle.chart.specs.Layout.{chartLength};
 ghost use Rattle.chart.specs.Chart.{refused, recordsIn, recordsRead};
-ghost use Rattle.chart.specs.Reading.{readingOf, reading};
+ghost use Rattle.chart.specs.Reading.{readingOf, reading, verdictSays, readSays};
 use crate::gathering::Gathered;
 use crate::gathering::gather;
 use crate::headers::Header;
@@ -59,6 +59,7 @@ fn read_records(chart: &[u8], header: Header) -> Reading
 // What any bytes read as: a chart, or the first of refusals 1 to 10 that applies.
 pub fn read(chart: &[u8]) -> Reading
     ensures { λ r. ⌜ r ≡ reading (now (chart .entry)) ⌝ }
+    ensures { λ r. ⌜ verdictSays (r .verdict) ≡ readSays (now (chart .entry)) ⌝ }
 {
     let header = read_header(chart);
     match header {

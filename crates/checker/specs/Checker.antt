@@ -108,3 +108,6 @@ abbrev pub checkedSays : Checked → CheckedSaid
 checkedSays Passes = record { number = 0; place = 0; yes = 1 }
 checkedSays Fails = record { number = 0; place = 0; yes = 0 }
 checkedSays (Refused refusal) = record { number = numberOf refusal; place = placeOf refusal; yes = 0 }
+
+abbrev pub checkSays : List ℕ → Lent → CheckedSaid
+checkSays bytes lent = checkedSays (checked bytes lent)

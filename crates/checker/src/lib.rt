@@ -6,7 +6,7 @@ mod passing;
 ghost use mathlib.Core.Path.{_≡_};
 ghost use Rattle.plan.specs.Listed.{DrawnIn, planAt};
 ghost use Rattle.tables.specs.Contract.{entryTable, RoomFor};
-ghost use Rattle.checker.specs.Checker.{passes, checkedBy, checked};
+ghost use Rattle.checker.specs.Checker.{passes, checkedBy, checked, checkedSays, checkSays};
 use crate::allowing::row_allows;
 use crate::passing::nodes_pass;
 use chart::Verdict;
@@ -53,6 +53,7 @@ pub fn check_drawn(columns: &[u8], plan: &[u16], must: &[u8], may: &[u8], marks:
 // Whether a lent table passes, or the first of refusals 1 to 11 that applies. It reads only the used parts and writes nothing.
 pub fn check(chart: &[u8], must: &[u8], may: &[u8], marks: &[u8]) -> Checked
     ensures { λ r. ⌜ r ≡ checked (now (chart .entry)) (entryTable must may marks) ⌝ }
+    ensures { λ r. ⌜ checkedSays r ≡ checkSays (now (chart .entry)) (entryTable must may marks) ⌝ }
 {
     let mut columns = [0u8; plan::COLUMNS];
     let mut drawn = [0u16; plan::LENGTH];

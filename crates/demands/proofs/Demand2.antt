@@ -1,21 +1,27 @@
 -- Demand 2: the checker passes exactly the tables that meet the equations, and an analysis that settles leaves the tightest of them.
-use Prim.Native.Nat.{ℕ, _+_, _*_, _≤_}
+use Prim.Native.Nat.{ℕ, _+_, _*_, _%_, _^_, _≤_}
 use mathlib.Core.Bool.{false}
 use mathlib.Core.List.{List}
 use mathlib.Core.Path.{_≡_, refl, sym, ap, _∙_, subst}
 use native.Mathlib.Nat.{mul-le-mul}
 use native.Mathlib.Omega.{arith}
 use lib.ListN.{length, replicate, length-replicate}
-use Rattle.chart.specs.Geometry.{mostNodes, mostBlocks, mostWays, passesFor, allPasses}
+use Rattle.chart.specs.declared.headers.Start.{Start}
+use Rattle.chart.specs.declared.headers.Start.the-variants.{Unknown, Empty}
+use Rattle.chart.specs.Geometry.{mostNodes, mostBlocks, mostWays, setOf, passesFor, allPasses}
 use Rattle.chart.specs.Chart.{Chart, Read, accepted, refused, readChart, blockCount}
+use Rattle.chart.specs.Bytes.{AreBytes}
+use Rattle.chart.proofs.Saying.{accepted-says}
 use Rattle.chart.proofs.Accepted.{accepted-nodes, accepted-ways, accepted-few}
 use Rattle.cache.specs.Ages.{Ages}
+use Rattle.cache.specs.Plain.{Cache, Formed, emptyCache}
+use Rattle.machine.specs.Machine.{waysOf, keyOf, BeginsWith, plainMachine}
 use Rattle.flow.specs.Flow.{Cell, cellAt}
 use Rattle.flow.specs.Passing.{Marked, Tightest}
 use Rattle.flow.specs.Pass.{settled}
 use Rattle.flow.proofs.Outcomes.{settle-agree}
-use Rattle.ages.specs.Charted.{planOf, agesFlow, mostPasses}
-use Rattle.ages.proofs.Charting.{key-alike, set-alike, limits-planned, enough-planned, chart-sound, reached-planned, planned-reached}
+use Rattle.ages.specs.Charted.{blockAt, isEmpty, planOf, agesFlow, mostPasses}
+use Rattle.ages.proofs.Charting.{key-alike, set-alike, must-limit-planned, may-limit-planned, limits-planned, enough-planned, chart-sound, reached-planned, planned-reached}
 use Rattle.tables.specs.Lent.{agesUsed}
 use Rattle.tables.proofs.Laid.{Shaped, table-over, not-short, over-passes}
 use Rattle.tables.proofs.Shaping.{afterPasses-shaped}
@@ -23,11 +29,40 @@ use Rattle.ages.proofs.Settled.{settles-within, settled-tightest, settled-passe
 use Rattle.analysis.specs.declared.Analysed.the-variants.{Settled, Refused}
 use Rattle.analysis.specs.Analysis.{Buffers, Left, buffersShort, filledBy, tableIn, analysed}
 use Rattle.report.specs.Report.{taken, zeroBuffers}
-use Rattle.demands.specs.Demand2.{Settles, Demand2}
+use Rattle.demands.specs.Demand2.{ShapeSaid, Settles, Demand2}
 use Rattle.demands.proofs.Refusals.{reading-refusals}
 use Rattle.demands.proofs.Checking.{checker-yes, yes-checker}
 use Rattle.analysis.proofs.Room.{room-parts, parts-room}
 use Rattle.demands.proofs.Analysing.{Done, settled-done, done-settled}
+
+-- ---- the shape that the bytes say
+
+-- What a machine may begin with goes by the start.
+begins-as : (chart : Chart) (start : Start) → chart .header .start ≡ start → (cache : Cache) → BeginsWith chart start cache → plainMachine chart .Begins cache
+begins-as chart start e cache h = subst (λ (s : Start). BeginsWith chart s cache) (sym e) h
+
+-- Lists of the form that numbers say are of the chart's form.
+formed-as : (chart : Chart) (ways sets : ℕ) → chart .header .geometry .ways ≡ ways → chart .header .geometry .sets ≡ sets → (cache : Cache) → Formed (λ set. ways) (λ block. block % 2 ^ sets) cache → Formed (waysOf chart) (keyOf chart) cache
+unfolding setOf
+formed-as chart ways sets e d cache h =
+    subst (λ (w : ℕ). Formed (λ set. w) (keyOf chart) cache) (sym e)
+    (subst (λ (s : ℕ). Formed (λ set. ways) (λ block. block % 2 ^ s) cache) (sym d) h)
+
+shape-said : (bytes : List ℕ) (chart : Chart) → AreBytes bytes → readChart bytes ≡ accepted chart → ShapeSaid bytes chart
+shape-said bytes chart small read =
+    let says = accepted-says bytes small chart read in
+    record {
+      must-limits = λ column h. must-limit-planned chart column h ∙ says .header .ways;
+      may-limits = λ column h. may-limit-planned chart column h ∙ says .header .ways;
+      machine-ways = λ set. says .header .ways;
+      machine-sets = says .sets;
+      column-sets = λ column. says .sets (blockAt chart column);
+      plan-unknown = λ e. ap isEmpty (says .header .unknown e);
+      plan-empty = λ e. ap isEmpty (says .header .empty e);
+      unknown-begins = λ e cache h. begins-as chart Unknown (says .header .unknown e) cache (formed-as chart _ _ (says .header .ways) (says .header .sets) cache h);
+      empty-begins = λ e. begins-as chart Empty (says .header .empty e) emptyCache (λ set. refl);
+      most-passes = ap (λ (a : ℕ). passesFor (chart .header .nodes) (blockCount chart) a) (says .header .ways);
+    }
 
 -- ---- an analysis that settles
 
@@ -128,6 +163,7 @@ program-enough bytes chart read =
 pub demand2 : Demand2
 demand2 =
     record {
+      shape-said = shape-said;
       keys-sets = key-alike;
       sets-keys = set-alike;
       checker-yes = checker-yes;

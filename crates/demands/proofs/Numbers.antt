@@ -1,7 +1,7 @@
 -- Of demand 1: which numbers each function's refusals have, and their values.
 use Prim.Native.Nat.{ℕ, _≤_}
 use mathlib.Core.Bool.{Bool, true, false, cond}
-use mathlib.Core.List.{List}
+use mathlib.Core.List.{List, []}
 use mathlib.Core.Path.{_≡_, refl, ap, subst}
 use native.Mathlib.Omega.{arith}
 use borrow.Author.Tests.{leb-true}
@@ -13,7 +13,7 @@ use Rattle.refusals.specs.declared.Refusal.the-variants.{ShortBuffer}
 use Rattle.chart.specs.declared.headers.HeaderRead.{HeaderRead}
 use Rattle.chart.specs.declared.headers.HeaderRead.the-variants.{Accepted, Refused}
 use Rattle.chart.specs.Header.{headerIn, bytesRules, headerRead, headerSays}
-use Rattle.refusals.specs.Refusals.{numberOf, placeOf, refusalSays}
+use Rattle.refusals.specs.Refusals.{numberOf, placeOf}
 use Rattle.chart.specs.Chart.{Chart, Read, accepted, refused, readChart, chartRules, blockCount}
 use Rattle.chart.specs.declared.readings.Verdict.the-variants.{Refused as ReaderRefused}
 use Rattle.chart.specs.Reading.{readingOf, reading, verdictSays}
@@ -85,10 +85,10 @@ analysis-numbers bytes allowance lent = go (readChart bytes) refl
 
 -- ---- the values of a refusal that is given
 
-pub header-refusal : (bytes : List ℕ) (refusal : Refusal) → headerRead bytes ≡ Refused refusal → headerSays (headerRead bytes) ≡ refusalSays refusal
+pub header-refusal : (bytes : List ℕ) (refusal : Refusal) → headerRead bytes ≡ Refused refusal → headerSays (headerRead bytes) ≡ record { number = numberOf refusal; place = placeOf refusal; header = [] }
 header-refusal bytes refusal e = ap headerSays e
 
-pub reading-refusal : (bytes : List ℕ) (refusal : Refusal) → reading bytes .verdict ≡ ReaderRefused refusal → verdictSays (reading bytes .verdict) ≡ record { number = numberOf refusal; place = placeOf refusal; blocks = 0 }
+pub reading-refusal : (bytes : List ℕ) (refusal : Refusal) → reading bytes .verdict ≡ ReaderRefused refusal → verdictSays (reading bytes .verdict) ≡ record { number = numberOf refusal; place = placeOf refusal; blocks = 0; header = [] }
 reading-refusal bytes refusal e = ap verdictSays e
 
 pub checker-refusal : (bytes : List ℕ) (table : Lent) (refusal : Refusal) → checked bytes table ≡ CheckerRefused refusal → checkedSays (checked bytes table) ≡ record { number = numberOf refusal; place = placeOf refusal; yes = 0 }

@@ -6,8 +6,12 @@ use Rattle.lists.proofs.Choice.{first-applies, applies-first}
 use Rattle.chart.specs.declared.headers.HeaderRead.the-variants.{Accepted as HeaderAccepted, Refused as HeaderRefused}
 use Rattle.chart.specs.Header.{headerIn, bytesRules, headerRead}
 use Rattle.chart.specs.Chart.{accepted, refused, chartIn, chartRules, readChart}
+use Rattle.chart.specs.Refusing.{blocksSaid}
 use Rattle.chart.specs.Reading.{readingOf}
+use Rattle.blocks.proofs.Exact.{gathered-exactly}
 use Rattle.chart.proofs.Reader.{read-refuses}
+use Rattle.chart.proofs.Refusing.{refuses-first, first-refuses, none-accepts, accepts-none}
+use Rattle.chart.proofs.Saying.{accepted-says}
 use Rattle.chart.proofs.Accepted.{accepted-few}
 use Rattle.analysis.specs.Analysis.{analysed}
 use Rattle.checker.specs.Checker.{checked}
@@ -25,8 +29,15 @@ reading-refusals =
       header-only = λ bytes refusal e. applies-first HeaderRefused (bytesRules bytes) (HeaderAccepted (headerIn bytes)) refusal (λ a b q. cc) (λ q. let z : _≡_ {A = ℕ} 0 1 = cc in omega arith) e;
       from-header = read-refuses;
       to-reader = λ bytes refusal e. rw e;
+      to-reader-accepted = λ bytes chart e. rw e;
       to-analysis = λ bytes refusal allowance lent e. rw e;
       to-checker = λ bytes refusal table e. rw e;
       to-totals = λ bytes refusal table prices e. rw e;
+      row-given = λ bytes refusal small h none. first-refuses bytes small refusal h none;
+      row-only = λ bytes refusal small e. refuses-first bytes small refusal e;
+      none-accepted = λ bytes small none. (chartIn bytes, none-accepts bytes small none);
+      accepted-none = λ bytes chart refusal small e. accepts-none bytes small chart e refusal;
+      accepted-says = λ bytes chart small e. accepted-says bytes small chart e;
+      counted-blocks = λ bytes n. gathered-exactly (blocksSaid bytes) n;
       few-blocks = accepted-few;
     }

@@ -4,38 +4,46 @@ use Prim.Native.Nat.{ℕ, zero, suc, _≤_, _<_}
 use mathlib.Core.List.{_∷_}
 use lib.ListN.{getD, length}
 use native.Mathlib.Omega.{arith}
+use borrow.Author.Tests.{lt-ltb, le-ltb, eq-eqb, ne-eqb}
 use mathlib.Core.Path.{_≡_, refl}
 use mathlib.Core.Logic.{inl, inr}
+use Rattle.lists.specs.Soundings.{Hold}
 use Rattle.chart.specs.Layout.{wordAt}
 use Rattle.chart.specs.Header.{headerIn}
 use Rattle.chart.specs.Geometry.{blockOf, setOf, shapeAllowed}
 use Rattle.chart.specs.Record.{recordKeeps, recordOf, arrowsOf, touchesOf}
 use Rattle.blocks.specs.Blocks.{gathered, overfull, placeIn}
 use Rattle.chart.specs.Reading.{readingOf}
-use Rattle.chart.specs.Chart.{firstBroken, firstOverfull, readChart}
+use Rattle.chart.proofs.Sounded.{chart-sounded}
+use Rattle.chart.specs.Chart.{touches, firstBroken, firstOverfull, readChart}
 use Rattle.cache.specs.Plain.{has, without, touchSet, hits, touch, Different, AllOf}
 use Rattle.cache.specs.Ages.{mustGrown, mayGrown, mustAfter, mayAfter, sameAges, touchAges, meetAges, startAges}
 use Rattle.flow.specs.Walk.{visitsOf}
-use Rattle.flow.specs.Pass.{met, changes, metAt, put, putAll, visitWith, visit, visits, pass, before, settleFrom, settle}
+use Rattle.flow.specs.Pass.{met, changes, metAt, put, putAll, visitWith, visit, visits, pass, before, afterPasses, settleFrom, settle}
 use Rattle.flow.proofs.Reaching.{onward-more}
+use Rattle.flow.proofs.Paying.{paid-scales}
 use Rattle.classes.specs.Class.{classBy}
 use Rattle.analysis.specs.Analysis.{finish, analysed}
 use Rattle.checker.specs.Checker.{passes, checkedBy, checked}
 use Rattle.totals.specs.Totals.{totals}
 use Rattle.costs.specs.Costs.{totalBy}
 use Rattle.report.specs.Report.{report}
+use Rattle.report.specs.Ending.{refuses}
+use Rattle.report.proofs.Refusing.{refusal-told}
 use Rattle.machine.specs.Machine.{keyOf, plainMachine}
-use Rattle.demands.specs.Soundings.{Hold, starred, loopPrices, tenTurns}
+use Rattle.demands.specs.Soundings.{starred, loopPrices, tenTurns}
 use Rattle.demands.specs.Refused.{damaged, unanalysed}
 use Rattle.demands.specs.Tabled.{unchecked, looser, untotalled, summed}
 use Rattle.demands.specs.Corners.{corners, unknownStart, strangers}
+use Rattle.demands.specs.Shared.{sharedSoundings, shapeSoundings}
+use Rattle.demands.specs.Edges.{leftBehind, edges, elevenSteps, elevenReport}
 use Rattle.demands.specs.Mistakes.{right, mistaken}
 use Rattle.demands.specs.Charts.{loopChart}
 use Rattle.demands.specs.Sounded.{Sounded}
 
 -- All that has to be seen through for a definition to compute.
 everything : Unit {0}
-unfolding readingOf wordAt blockOf setOf shapeAllowed recordKeeps recordOf arrowsOf touchesOf gathered overfull placeIn firstBroken firstOverfull readChart has without touchSet hits touch mustGrown mayGrown mustAfter mayAfter sameAges touchAges meetAges startAges met changes metAt put putAll visitWith visit visits pass before settleFrom settle classBy finish analysed passes checkedBy checked totalBy totals report
+unfolding readingOf wordAt blockOf setOf shapeAllowed recordKeeps recordOf arrowsOf touchesOf gathered overfull placeIn firstBroken firstOverfull readChart has without touchSet hits touch mustGrown mayGrown mustAfter mayAfter sameAges touchAges meetAges startAges met changes metAt put putAll visitWith visit visits pass before afterPasses settleFrom settle classBy finish analysed passes checkedBy checked totalBy totals report refuses
 everything = tt
 
 pub loop-nodes : headerIn loopChart .nodes ≡ 3
@@ -90,6 +98,26 @@ summed-hold : Hold summed
 unfolding everything
 summed-hold = refl
 
+shared-hold : Hold sharedSoundings
+unfolding everything
+shared-hold = refl
+
+left-behind-hold : Hold leftBehind
+unfolding everything
+left-behind-hold = refl
+
+edges-hold : Hold edges
+unfolding everything
+edges-hold = refl
+
+eleven-report : report elevenSteps ≡ elevenReport
+unfolding everything
+eleven-report = refl
+
+shapes-hold : Hold shapeSoundings
+unfolding everything
+shapes-hold = refl
+
 corners-hold : Hold corners
 unfolding everything
 corners-hold = refl
@@ -128,14 +156,31 @@ sounded =
       loop-totals = refl;
       sample-report = refl;
       longest-chart = refl;
+      input-taken = refl;
       passes-allowed = refl;
+      passes-enough = refl;
+      sample-not-refused = refl;
+      no-bytes-refused = refl;
+      refusal-told = refusal-told;
+      endings = refl;
       damaged-hold = damaged-hold;
       unanalysed-hold = unanalysed-hold;
       unchecked-hold = unchecked-hold;
       looser-hold = looser-hold;
       untotalled-hold = untotalled-hold;
       summed-hold = summed-hold;
+      shared-hold = shared-hold;
+      shapes-hold = shapes-hold;
+      left-behind-hold = left-behind-hold;
+      edges-hold = edges-hold;
+      eleven-report = eleven-report;
+      hit-called = λ limit must may h. rw (lt-ltb must limit h);
+      miss-called = λ limit must may h e. rw (le-ltb must limit h, eq-eqb may limit e);
+      unsure-called = λ limit must may h e. rw (le-ltb must limit h, ne-eqb may limit e);
+      cost-scales = λ chart k hitCost missCost ts contents. paid-scales (plainMachine chart) k hitCost missCost (touches chart) (chart .header .entry) ts contents;
+      chart-sounded = chart-sounded;
       corners-hold = corners-hold;
       right-hold = right-hold;
       mistaken-hold = mistaken-hold;
+      how-many = refl;
     }

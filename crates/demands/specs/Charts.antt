@@ -1,5 +1,5 @@
 -- The charts of document 01's soundings, byte by byte. A read of an address a that is a multiple of 4 and below 0x400 begins 40 00 00 a/4.
-use Prim.Native.Nat.{ℕ}
+use Prim.Native.Nat.{ℕ, suc}
 use mathlib.Core.List.{List, [], _∷_, _++_}
 
 -- ---- headers of three nodes with entry 0 and 16-byte lines
@@ -44,14 +44,24 @@ loopReport =
     ∷ 50 ∷ 32 ∷ 104 ∷ 105 ∷ 116 ∷ 10
     ∷ []
 
--- "Straight charts of three reads": 0x00, then 4 times `middle`, then 0x00, "an arrow from each to the next and none from the last".
+-- Nodes of one kind (0x00 for bare steps, 0x40 for reads, 0x80 for writes), "an arrow from each to the next and none from the last", which
+-- touch four times these addresses; `next` is the number of the second of them.
+abbrev pub chain : ℕ → ℕ → List ℕ → List ℕ
+chain kind next [] = []
+chain kind next (a ∷ []) = kind ∷ 0x00 ∷ 0x00 ∷ a ∷ 0x00 ∷ 0x00 ∷ 0x00 ∷ 0x00 ∷ []
+chain kind next (a ∷ b ∷ l) =
+    kind ∷ 0x00 ∷ 0x00 ∷ a ∷ 0x10 ∷ next ∷ 0x00 ∷ 0x00 ∷ chain kind (suc next) (b ∷ l)
+
+-- Three nodes of one kind: of addresses 4 times `ends`, 4 times `middle` and 4 times `ends` again.
+abbrev pub straightOf : ℕ → List ℕ → ℕ → ℕ → List ℕ
+straightOf kind header ends middle = header ++ chain kind 1 (ends ∷ middle ∷ ends ∷ [])
+
+-- "Straight charts of three reads": 0x00, then 4 times `middle`, then 0x00.
 abbrev pub straightChart : List ℕ → ℕ → List ℕ
-straightChart header middle =
-    header
-    ++ 0x40 ∷ 0x00 ∷ 0x00 ∷ 0x00 ∷ 0x10 ∷ 0x01 ∷ 0x00 ∷ 0x00
-    ∷ 0x40 ∷ 0x00 ∷ 0x00 ∷ middle ∷ 0x10 ∷ 0x02 ∷ 0x00 ∷ 0x00
-    ∷ 0x40 ∷ 0x00 ∷ 0x00 ∷ 0x00 ∷ 0x00 ∷ 0x00 ∷ 0x00 ∷ 0x00
-    ∷ []
+straightChart header middle = straightOf 0x40 header 0x00 middle
+
+abbrev pub straightWrites : List ℕ → ℕ → List ℕ
+straightWrites header middle = straightOf 0x80 header 0x00 middle
 
 -- An entry with an arrow into it: one node that reads 0 and leads to itself; one set, two ways, empty.
 abbrev pub entryLoopChart : List ℕ

@@ -1,30 +1,26 @@
 -- Corners that document 01's soundings leave out: several sets of several ways and the two fields swapped, long and short lines, each class,
 -- blocks of two sets, another entry, a write, the words and numbers of a report, and a start with a block that the chart does not have.
 use Prim.Native.Nat.{ℕ, zero, suc}
-use mathlib.Core.Bool.{cond}
 use mathlib.Core.List.{List, [], _∷_, map}
 use lib.ListN.{set}
+use Rattle.lists.specs.Soundings.{Sounding, _reads_}
 use Rattle.lists.specs.Lists.{joined}
 use Rattle.chart.specs.declared.shape.Geometry.{Geometry}
 use Rattle.refusals.specs.declared.Refusal.the-variants.{TooManyBlocks}
 use Rattle.chart.specs.Geometry.{blockOf, setOf}
 use Rattle.refusals.specs.Refusals.{placeOf}
-use Rattle.chart.specs.Record.{Touch}
+use Rattle.chart.specs.Sounded.{touchesOut}
 use Rattle.chart.specs.Chart.{Chart, chartIn, touches}
 use Rattle.cache.specs.Plain.{Cache}
 use Rattle.classes.specs.Class.{classBy}
 use Rattle.report.specs.Report.{report, classWord}
 use Rattle.report.specs.Text.{decimal}
 use Rattle.demands.specs.Charts.{loopChart, straightChart, oneSetTwoWays, twoSetsOneWay, twoSetsTwoWays, fourSetsOneWay}
-use Rattle.demands.specs.Soundings.{Sounding, _reads_, classesFor}
+use Rattle.demands.specs.Soundings.{classesFor}
 use Rattle.demands.specs.Tabled.{endless, stopped}
 
 abbrev pub shape : ℕ → ℕ → ℕ → Geometry
 shape line sets ways = record { line = line; sets = sets; ways = ways }
-
--- The kinds of what node 1 touches: 1 for a read, 2 for a write.
-abbrev pub kindsAtOne : List ℕ → List ℕ
-kindsAtOne bytes = map (λ (touch : Touch). cond (touch .write) 2 1) (touches (chartIn bytes) 1)
 
 abbrev pub corners : List Sounding
 corners =
@@ -45,8 +41,8 @@ corners =
     -- the loop chart entered at node 2
     ∷ (classesFor (set loopChart 6 0x02) reads (0 ∷ 0 ∷ 2 ∷ []))
     -- its node 1 reads; with kind 2 it writes
-    ∷ (kindsAtOne loopChart reads (1 ∷ []))
-    ∷ (kindsAtOne (set loopChart 16 0x80) reads (2 ∷ []))
+    ∷ (touchesOut (touches (chartIn loopChart) 1) reads (1 ∷ 0 ∷ []))
+    ∷ (touchesOut (touches (chartIn (set loopChart 16 0x80)) 1) reads (2 ∷ 0 ∷ []))
     -- "refused 9 at 2", the words of classes 0 and 2, and a number of six digits
     ∷ (report (set loopChart 24 0xC0) reads (114 ∷ 101 ∷ 102 ∷ 117 ∷ 115 ∷ 101 ∷ 100 ∷ 32 ∷ 57 ∷ 32 ∷ 97 ∷ 116 ∷ 32 ∷ 50 ∷ 10 ∷ []))
     ∷ (joined (map classWord (0 ∷ 2 ∷ [])) reads (117 ∷ 110 ∷ 114 ∷ 101 ∷ 97 ∷ 99 ∷ 104 ∷ 101 ∷ 100 ∷ 109 ∷ 105 ∷ 115 ∷ 115 ∷ []))

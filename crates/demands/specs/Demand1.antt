@@ -8,29 +8,34 @@ use mathlib.Core.Bool.{true, false}
 use mathlib.Core.List.{List, [], _∷_}
 use mathlib.Core.Logic.{_⊎_}
 use lib.ListN.{length, replicate, getD}
+use Rattle.lists.specs.Lists.{padded}
 use Rattle.lists.specs.Choice.{FirstApplies, Rule, _⇒_}
 use Rattle.refusals.specs.declared.Refusal.{Refusal}
 use Rattle.refusals.specs.declared.Refusal.the-variants.{ShortBuffer, NotPassing}
 use Rattle.chart.specs.declared.headers.HeaderRead.the-variants.{Refused as HeaderRefused}
-use Rattle.chart.specs.declared.readings.Verdict.the-variants.{Refused as ReaderRefused}
+use Rattle.chart.specs.declared.readings.Verdict.the-variants.{Accepted as ReaderAccepted, Refused as ReaderRefused}
 use Rattle.chart.specs.Geometry.{mostBlocks}
-use Rattle.chart.specs.Header.{bytesRules, headerRead, headerSays}
-use Rattle.chart.specs.Reading.{reading, verdictSays}
+use Rattle.blocks.specs.Exactly.{Exactly}
+use Rattle.chart.specs.Bytes.{AreBytes}
+use Rattle.chart.specs.Refusing.{Applies, blocksSaid, blocksBefore}
+use Rattle.chart.specs.Saying.{Says}
+use Rattle.chart.specs.Header.{bytesRules, headerRead, readHeaderSays}
+use Rattle.chart.specs.Reading.{reading, readSays}
 use Rattle.chart.specs.Chart.{Chart, accepted, refused, readChart, chartRules, blockCount}
-use Rattle.refusals.specs.Refusals.{numberOf, placeOf, refusalSays}
+use Rattle.refusals.specs.Refusals.{numberOf, placeOf}
 use Rattle.flow.specs.Pass.{pass, afterPasses}
 use Rattle.ages.specs.Charted.{planOf, agesFlow}
 use Rattle.costs.specs.Costs.{Prices, lowTotal, highTotal}
 use Rattle.tables.specs.Lent.{Lent, tableOf, tableShort, SameUsed, TablePasses}
-use Rattle.analysis.specs.Analysis.{Buffers, buffersShort, filledByZeros, refuse, analysed, analysedSays}
+use Rattle.analysis.specs.Analysis.{Buffers, buffersShort, filledByZeros, analysed, analyseSays}
 use Rattle.analysis.specs.declared.Analysed.the-variants.{Settled, Unsettled}
 use Rattle.analysis.specs.declared.Analysed.the-variants.{Refused as AnalysisRefused}
 use Rattle.checker.specs.declared.Checked.the-variants.{Passes, Fails}
 use Rattle.checker.specs.declared.Checked.the-variants.{Refused as CheckerRefused}
-use Rattle.checker.specs.Checker.{checked, checkedSays}
+use Rattle.checker.specs.Checker.{checked, checkSays}
 use Rattle.totals.specs.declared.Totals.the-variants.{Between}
 use Rattle.totals.specs.declared.Totals.the-variants.{Refused as TotalsRefused}
-use Rattle.totals.specs.Totals.{totalRules, totals, totalsSay}
+use Rattle.totals.specs.Totals.{totalRules, totals, totalSays}
 
 -- Each of so many passes changes something.
 abbrev pub AllChange : Chart → ℕ → Type 0
@@ -49,6 +54,10 @@ abbrev pub numbersOf : List (Rule Refusal) → List ℕ
 numbersOf [] = []
 numbersOf ((test ⇒ refusal) ∷ rules) = numberOf refusal ∷ numbersOf rules
 
+-- No refusal of a smaller number applies.
+abbrev pub NoneBefore : List ℕ → Refusal → Type 0
+NoneBefore bytes refusal = (other : Refusal) → numberOf other < numberOf refusal → Applies bytes other → ⊥
+
 -- Refusals 1 to 10: when they are given, that reader, analysis, checker and totals all give them and the header alone gives 1 to 8, and
 -- what they leave behind.
 pub record ReadingRefusals : Type 0 where
@@ -60,21 +69,43 @@ pub record ReadingRefusals : Type 0 where
   pub header-only : (bytes : List ℕ) (refusal : Refusal) → headerRead bytes ≡ HeaderRefused refusal → FirstApplies (bytesRules bytes) refusal
   pub from-header : (bytes : List ℕ) (refusal : Refusal) → headerRead bytes ≡ HeaderRefused refusal → readChart bytes ≡ refused refusal
   pub to-reader : (bytes : List ℕ) (refusal : Refusal) → readChart bytes ≡ refused refusal → reading bytes ≡ record { verdict = ReaderRefused refusal; blocks = replicate mostBlocks 0 }
+  pub to-reader-accepted : (bytes : List ℕ) (chart : Chart)
+      → readChart bytes ≡ accepted chart
+      → reading bytes ≡ record { verdict = ReaderAccepted (chart .header) (blockCount chart); blocks = padded mostBlocks (chart .blocks) }
   pub to-analysis : (bytes : List ℕ) (refusal : Refusal) (allowance : ℕ) (lent : Buffers)
       → readChart bytes ≡ refused refusal
-      → analysed bytes allowance lent ≡ refuse lent refusal
+      → analysed bytes allowance lent ≡ record { answer = AnalysisRefused refusal; buffers = lent }
   pub to-checker : (bytes : List ℕ) (refusal : Refusal) (table : Lent)
       → readChart bytes ≡ refused refusal
       → checked bytes table ≡ CheckerRefused refusal
   pub to-totals : (bytes : List ℕ) (refusal : Refusal) (table : Lent) (prices : Prices)
       → readChart bytes ≡ refused refusal
       → totals bytes table prices ≡ TotalsRefused refusal
+  -- the same of bytes, row by row, as statements: a refusal is given exactly if its row applies and none of a smaller number does
+  pub row-given : (bytes : List ℕ) (refusal : Refusal)
+      → AreBytes bytes
+      → Applies bytes refusal
+      → NoneBefore bytes refusal
+      → readChart bytes ≡ refused refusal
+  pub row-only : (bytes : List ℕ) (refusal : Refusal)
+      → AreBytes bytes
+      → readChart bytes ≡ refused refusal
+      → Applies bytes refusal × NoneBefore bytes refusal
+  -- bytes to which no row applies, and only those, are a chart: the one that they say, node by node, with exactly the blocks that are touched
+  pub none-accepted : (bytes : List ℕ)
+      → AreBytes bytes
+      → ((refusal : Refusal) → Applies bytes refusal → ⊥)
+      → (chart : Chart) × (readChart bytes ≡ accepted chart)
+  pub accepted-none : (bytes : List ℕ) (chart : Chart) (refusal : Refusal) → AreBytes bytes → readChart bytes ≡ accepted chart → Applies bytes refusal → ⊥
+  pub accepted-says : (bytes : List ℕ) (chart : Chart) → AreBytes bytes → readChart bytes ≡ accepted chart → Says bytes chart
+  -- the blocks that row 10 counts are those that the nodes before touch
+  pub counted-blocks : (bytes : List ℕ) (n : ℕ) → Exactly (blocksSaid bytes) n (blocksBefore bytes n)
   -- "There may be 0 to 64 of them."
   pub few-blocks : (bytes : List ℕ) (chart : Chart) → readChart bytes ≡ accepted chart → blockCount chart ≤ mostBlocks
 
 -- The analysis of an accepted chart: 11 if a buffer is short; else 12 if every pass that is allowed changes something; else it settles.
 pub record AnalysisRefusals (bytes : List ℕ) (chart : Chart) (allowance : ℕ) (lent : Buffers) : Type 0 where
-  pub short : buffersShort (planOf chart) lent ≡ true → analysed bytes allowance lent ≡ refuse lent ShortBuffer
+  pub short : buffersShort (planOf chart) lent ≡ true → analysed bytes allowance lent ≡ record { answer = AnalysisRefused ShortBuffer; buffers = lent }
   pub unsettled : buffersShort (planOf chart) lent ≡ false
       → AllChange chart allowance
       → analysed bytes allowance lent ≡ record { answer = Unsettled allowance (blockCount chart); buffers = filledByZeros (planOf chart) (chart .blocks) lent }
@@ -122,35 +153,35 @@ pub record Demand1 : Type 0 where
       → readChart bytes ≡ accepted chart
       → TotalsRefusals bytes chart table prices
   -- "The analysis uses 1 to 12", "the checker uses 1 to 11", "the totals use 1 to 11 and 13 to 17"
-  pub header-numbers : (bytes : List ℕ) → headerSays (headerRead bytes) .number ≤ 8
-  pub reading-numbers : (bytes : List ℕ) → verdictSays (reading bytes .verdict) .number ≤ 10
-  pub analysis-numbers : (bytes : List ℕ) (allowance : ℕ) (lent : Buffers) → analysedSays (analysed bytes allowance lent .answer) .number ≤ 12
-  pub checker-numbers : (bytes : List ℕ) (table : Lent) → checkedSays (checked bytes table) .number ≤ 11
+  pub header-numbers : (bytes : List ℕ) → readHeaderSays bytes .number ≤ 8
+  pub reading-numbers : (bytes : List ℕ) → readSays bytes .number ≤ 10
+  pub analysis-numbers : (bytes : List ℕ) (allowance : ℕ) (lent : Buffers) → analyseSays bytes allowance lent .number ≤ 12
+  pub checker-numbers : (bytes : List ℕ) (table : Lent) → checkSays bytes table .number ≤ 11
   pub totals-numbers : (bytes : List ℕ) (table : Lent) (prices : Prices)
-      → (totalsSay (totals bytes table prices) .number ≤ 17) × (totalsSay (totals bytes table prices) .number ≡ 12 → ⊥)
+      → (totalSays bytes table prices .number ≤ 17) × (totalSays bytes table prices .number ≡ 12 → ⊥)
   -- "Every refusal returns its number and place, with pass count, block count and totals 0, save that 12 also returns the allowance
   -- and B": an answer has those of them that its function returns, the header's and the checker's none
-  pub header-refusal : (bytes : List ℕ) (refusal : Refusal) → headerRead bytes ≡ HeaderRefused refusal → headerSays (headerRead bytes) ≡ refusalSays refusal
+  pub header-refusal : (bytes : List ℕ) (refusal : Refusal) → headerRead bytes ≡ HeaderRefused refusal → readHeaderSays bytes ≡ record { number = numberOf refusal; place = placeOf refusal; header = [] }
   pub reading-refusal : (bytes : List ℕ) (refusal : Refusal)
       → reading bytes .verdict ≡ ReaderRefused refusal
-      → verdictSays (reading bytes .verdict) ≡ record { number = numberOf refusal; place = placeOf refusal; blocks = 0 }
+      → readSays bytes ≡ record { number = numberOf refusal; place = placeOf refusal; blocks = 0; header = [] }
   pub analysis-refusal : (bytes : List ℕ) (allowance : ℕ) (lent : Buffers) (refusal : Refusal)
       → analysed bytes allowance lent .answer ≡ AnalysisRefused refusal
-      → analysedSays (analysed bytes allowance lent .answer) ≡ record { number = numberOf refusal; place = placeOf refusal; passes = 0; blocks = 0 }
+      → analyseSays bytes allowance lent ≡ record { number = numberOf refusal; place = placeOf refusal; passes = 0; blocks = 0 }
   -- 12 is never told as another refusal is: it comes with its values
   pub analysis-refused : (bytes : List ℕ) (allowance : ℕ) (lent : Buffers) (refusal : Refusal)
       → analysed bytes allowance lent .answer ≡ AnalysisRefused refusal
       → numberOf refusal ≤ 11
   pub analysis-unsettled : (bytes : List ℕ) (chart : Chart) (allowance : ℕ) (lent : Buffers)
       → readChart bytes ≡ accepted chart
-      → analysedSays (analysed bytes allowance lent .answer) .number ≡ 12
-      → analysedSays (analysed bytes allowance lent .answer) ≡ record { number = 12; place = 0; passes = allowance; blocks = blockCount chart }
+      → analyseSays bytes allowance lent .number ≡ 12
+      → analyseSays bytes allowance lent ≡ record { number = 12; place = 0; passes = allowance; blocks = blockCount chart }
   pub checker-refusal : (bytes : List ℕ) (table : Lent) (refusal : Refusal)
       → checked bytes table ≡ CheckerRefused refusal
-      → checkedSays (checked bytes table) ≡ record { number = numberOf refusal; place = placeOf refusal; yes = 0 }
+      → checkSays bytes table ≡ record { number = numberOf refusal; place = placeOf refusal; yes = 0 }
   pub totals-refusal : (bytes : List ℕ) (table : Lent) (prices : Prices) (refusal : Refusal)
       → totals bytes table prices ≡ TotalsRefused refusal
-      → totalsSay (totals bytes table prices) ≡ record { number = numberOf refusal; place = placeOf refusal; low = 0; high = 0 }
+      → totalSays bytes table prices ≡ record { number = numberOf refusal; place = placeOf refusal; low = 0; high = 0 }
   -- no buffer grows or shrinks
   pub same-lengths : (bytes : List ℕ) (allowance : ℕ) (lent : Buffers) → SameLengths lent (analysed bytes allowance lent .buffers)
   -- "Both read only the used parts of a lent table; neither writes to anything lent": what is lent to them are `&` slices, which cannot

@@ -2,10 +2,10 @@
 -- exactly when it meets the equations of document 01. The built-in analysis is refused only as 01 lists; otherwise its table passes and is
 -- the tightest of all that pass."
 -- (The ages are those of that analysis by definition: cache/specs/Ages.antt, over columns whose keys stand for their blocks' sets, as
--- `keys-sets` and `sets-keys` say. That the analysis is refused only as 01 lists is
+-- `keys-sets` and `sets-keys` say, in the shape that the bytes say, `shape-said`. That the analysis is refused only as 01 lists is
 -- `Demand1.readings` and `Demand1.analysis`.)
 -- Proved as `demand2` in proofs/Demand2.antt.
-use Prim.Native.Nat.{ℕ, suc, _≤_, _<_}
+use Prim.Native.Nat.{ℕ, suc, _+_, _*_, _%_, _^_, _≤_, _<_}
 use mathlib.Core.Path.{_≡_}
 use mathlib.Core.Bool.{true, false}
 use mathlib.Core.List.{List}
@@ -15,16 +15,20 @@ use Rattle.flow.specs.Flow.{cellAt}
 use Rattle.flow.specs.Passing.{Marked, Tightest}
 use Rattle.flow.specs.Pass.{pass, afterPasses}
 use Rattle.flow.specs.Walk.{Reached}
-use Rattle.ages.specs.Charted.{setAt, keyAt, planOf, agesFlow, mostPasses}
+use Rattle.chart.specs.Bytes.{AreBytes, headerBytes}
+use Rattle.ages.specs.Plan.{columnsOf}
+use Rattle.ages.specs.Charted.{blockAt, setAt, keyAt, planOf, agesFlow, mostPasses}
+use Rattle.cache.specs.Plain.{Cache, Formed, emptyCache}
+use Rattle.machine.specs.Machine.{waysOf, keyOf, plainMachine}
 use Rattle.tables.specs.Lent.{Lent, tableOf, TablePasses}
 use Rattle.analysis.specs.declared.Analysed.the-variants.{Settled}
 use Rattle.analysis.specs.Analysis.{Buffers, buffersShort, filledBy, tableIn, analysed}
-use Rattle.checker.specs.Checker.{checked, checkedSays}
+use Rattle.checker.specs.Checker.{checkSays}
 use Rattle.report.specs.Report.{taken, zeroBuffers}
 
 -- The checker says yes.
 abbrev pub CheckerPasses : List ℕ → Lent → Type 0
-CheckerPasses bytes table = checkedSays (checked bytes table) .yes ≡ 1
+CheckerPasses bytes table = checkSays bytes table .yes ≡ 1
 
 -- What holds of a chart, of the buffers lent and of the buffers left by an analysis that settled after so many passes.
 pub record Settles (chart : Chart) (passes blocks : ℕ) (lent left : Buffers) : Type 0 where
@@ -47,7 +51,25 @@ pub record Settles (chart : Chart) (passes blocks : ℕ) (lent left : Buffers) :
   pub marked-reached : (n : ℕ) → Marked (cellAt (tableOf (planOf chart) (tableIn left)) n) → Reached (arrows chart) (chart .header .entry) n
   pub reached-marked : (n : ℕ) → Reached (arrows chart) (chart .header .entry) n → Marked (cellAt (tableOf (planOf chart) (tableIn left)) n)
 
+-- A set of the plain machine has A ways, the ages of every column of a plan are at most A, a block's set is its number mod 2^S, and the start is
+-- empty or unknown: as the bytes say it. The machine may begin with any lists of its form where the start is unknown.
+pub record ShapeSaid (bytes : List ℕ) (chart : Chart) : Type 0 where
+  pub must-limits : (column : ℕ) → column < blockCount chart → columnsOf (planOf chart) .mustLimit column ≡ headerBytes bytes .ways
+  pub may-limits : (column : ℕ) → column < blockCount chart → columnsOf (planOf chart) .mayLimit column ≡ headerBytes bytes .ways
+  pub machine-ways : (set : ℕ) → waysOf chart set ≡ headerBytes bytes .ways
+  pub machine-sets : (block : ℕ) → keyOf chart block ≡ block % 2 ^ headerBytes bytes .sets
+  pub column-sets : (column : ℕ) → setAt chart column ≡ blockAt chart column % 2 ^ headerBytes bytes .sets
+  pub plan-unknown : headerBytes bytes .start ≡ 0 → planOf chart .empty ≡ false
+  pub plan-empty : headerBytes bytes .start ≡ 1 → planOf chart .empty ≡ true
+  pub unknown-begins : headerBytes bytes .start ≡ 0
+      → (cache : Cache)
+      → Formed (λ set. headerBytes bytes .ways) (λ block. block % 2 ^ headerBytes bytes .sets) cache
+      → plainMachine chart .Begins cache
+  pub empty-begins : headerBytes bytes .start ≡ 1 → plainMachine chart .Begins emptyCache
+  pub most-passes : mostPasses chart ≡ chart .header .nodes * (1 + 2 * blockCount chart * headerBytes bytes .ways) + 1
+
 pub record Demand2 : Type 0 where
+  pub shape-said : (bytes : List ℕ) (chart : Chart) → AreBytes bytes → readChart bytes ≡ accepted chart → ShapeSaid bytes chart
   -- two columns have one key exactly if their blocks are of one set
   pub keys-sets : (chart : Chart) (i j : ℕ) → keyAt chart i ≡ keyAt chart j → setAt chart i ≡ setAt chart j
   pub sets-keys : (chart : Chart) (i j : ℕ) → setAt chart i ≡ setAt chart j → keyAt chart i ≡ keyAt chart j

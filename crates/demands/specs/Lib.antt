@@ -9,3 +9,5 @@ pub mod Tabled
 pub mod Corners
 pub mod Mistakes
 pub mod Sounded
+pub mod Shared
+pub mod Edges

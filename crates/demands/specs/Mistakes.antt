@@ -5,6 +5,7 @@ use mathlib.Core.Bool.{true, cond}
 use mathlib.Core.List.{List, [], _∷_}
 use lib.ListN.{replicate}
 use lib.Dec.{eqb, ltb, leb}
+use Rattle.lists.specs.Soundings.{Sounding, _reads_}
 use Rattle.lists.specs.Lists.{listOf}
 use Rattle.chart.specs.Geometry.{allPasses}
 use Rattle.chart.specs.Chart.{Chart, chartIn, blockCount}
@@ -14,7 +15,7 @@ use Rattle.ages.specs.Plan.{columnsOf, flowBy}
 use Rattle.ages.specs.Charted.{planOf, agesFlow}
 use Rattle.classes.specs.Class.{tableClasses}
 use Rattle.demands.specs.Charts.{oneSetTwoWaysEmpty, oneSetTwoWays, twoSetsOneWay, straightChart, entryLoopChart}
-use Rattle.demands.specs.Soundings.{Sounding, _reads_, classesFor, mustTouched, mayTouched, row}
+use Rattle.demands.specs.Soundings.{classesFor, mustTouched, mayTouched, row}
 
 -- ---- an analysis with a start and a step of its own
 

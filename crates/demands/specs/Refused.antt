@@ -1,18 +1,18 @@
 -- Refusals 1 to 12 on charts that are written out: the loop chart damaged in one place at a time, lent too little, and allowed too few
--- passes; beside each kind one case with nothing wrong. Document 01, "When the tool says no", rows 1 to 12 but 10, which takes 65 blocks and
--- is run by the tests.
+-- passes; beside each kind one case with nothing wrong. Document 01, "When the tool says no", rows 1 to 12 but 10, which takes 65 blocks: chart
+-- `Sounded` has it.
 use Prim.Native.Nat.{ℕ}
 use mathlib.Core.List.{List, [], _∷_, _++_}
 use lib.ListN.{replicate, set, take}
-use Rattle.chart.specs.Reading.{reading, verdictSays}
-use Rattle.analysis.specs.Analysis.{Buffers, analysed, analysedSays}
+use Rattle.lists.specs.Soundings.{Sounding, _reads_}
+use Rattle.chart.specs.Reading.{readSays}
+use Rattle.analysis.specs.Analysis.{Buffers, analysed, analyseSays}
 use Rattle.demands.specs.Charts.{loopChart}
-use Rattle.demands.specs.Soundings.{Sounding, _reads_}
 
 -- ---- 1 to 9, by the reader
 
 abbrev pub read : List ℕ → List ℕ
-read bytes = verdictSays (reading bytes .verdict) .number ∷ verdictSays (reading bytes .verdict) .place ∷ []
+read bytes = readSays bytes .number ∷ readSays bytes .place ∷ []
 
 -- The number and the place that the reader says.
 abbrev pub damaged : List Sounding
@@ -55,8 +55,8 @@ damaged =
 
 abbrev pub analysing : ℕ → Buffers → List ℕ
 analysing allowance lent =
-    analysedSays (analysed loopChart allowance lent .answer) .number
-    ∷ analysedSays (analysed loopChart allowance lent .answer) .place
+    analyseSays loopChart allowance lent .number
+    ∷ analyseSays loopChart allowance lent .place
     ∷ []
 
 -- Buffers of these lengths, all sevens.
@@ -86,7 +86,7 @@ unanalysed =
     ∷ (analysing 2 (sevens 1 3 3 3 3) reads (0 ∷ 0 ∷ []))
     -- 12: one pass allowed; the allowance and B, the block list, zeros, and each tail
     ∷ (analysing 1 (sevens 1 3 3 3 3) reads (12 ∷ 0 ∷ []))
-    ∷ ((analysedSays (analysed loopChart 1 (sevens 1 3 3 3 3) .answer) .passes ∷ analysedSays (analysed loopChart 1 (sevens 1 3 3 3 3) .answer) .blocks ∷ []) reads (1 ∷ 1 ∷ []))
+    ∷ ((analyseSays loopChart 1 (sevens 1 3 3 3 3) .passes ∷ analyseSays loopChart 1 (sevens 1 3 3 3 3) .blocks ∷ []) reads (1 ∷ 1 ∷ []))
     ∷ (unsettled .blocks reads (0 ∷ 7 ∷ []))
     ∷ (unsettled .must reads (0 ∷ 0 ∷ 0 ∷ 7 ∷ []))
     ∷ (unsettled .may reads (0 ∷ 0 ∷ 0 ∷ 7 ∷ []))

@@ -1,8 +1,11 @@
--- What is claimed of the definitions on charts that are written out, of two numbers, and of walks. `sounded` in proofs/Soundings.antt proves
--- it, all but the walks by computing.
+-- What is claimed of the definitions: soundings on charts that are written out, proved by computing; the program's numbers; and statements of
+-- walks, starts, reports, classes and costs. `sounded` in proofs/Soundings.antt proves it.
 use mathlib.Core.Path.{_≡_}
-use Prim.Native.Nat.{ℕ, _<_}
-use mathlib.Core.List.{List, [], _∷_, _++_}
+use Prim.Native.Nat.{ℕ, _*_, _≤_, _<_}
+use mathlib.Core.Bool.{true, false, cond}
+use mathlib.Core.List.{List, [], _∷_, _++_, map}
+use lib.ListN.{length, replicate, getD}
+use Rattle.lists.specs.Soundings.{Hold}
 use Rattle.cache.specs.Plain.{emptyCache}
 use Rattle.lists.specs.Lists.{Among}
 use Rattle.flow.specs.Walk.{Walk, lastOf}
@@ -11,15 +14,21 @@ use Rattle.checker.specs.declared.Checked.the-variants.{Passes}
 use Rattle.checker.specs.Checker.{checked}
 use Rattle.totals.specs.declared.Totals.the-variants.{Between}
 use Rattle.totals.specs.Totals.{totals}
-use Rattle.chart.specs.Geometry.{longestChart, allPasses}
-use Rattle.report.specs.Report.{report}
-use Rattle.machine.specs.Machine.{plainMachine}
+use Rattle.chart.specs.Geometry.{longestChart, passesFor, allPasses}
+use Rattle.chart.specs.Sounded.{chartFields, ChartSounded}
+use Rattle.report.specs.Report.{taken, report}
+use Rattle.report.specs.Ending.{refuses, endingOf}
+use Rattle.chart.specs.Chart.{Chart}
+use Rattle.classes.specs.Class.{classBy}
+use Rattle.machine.specs.Machine.{plainMachine, Contents, costOf}
 use Rattle.demands.specs.Demand3.{OnWalk, VisitsWithin, AtEachNode}
 use Rattle.demands.specs.Charts.{loopChart, loopReport}
-use Rattle.demands.specs.Soundings.{Hold, starred, after, loopPrices, loop, tenTurns}
+use Rattle.demands.specs.Soundings.{starred, after, loopPrices, loop, tenTurns}
 use Rattle.demands.specs.Refused.{damaged, unanalysed}
 use Rattle.demands.specs.Tabled.{unchecked, looser, untotalled, summed}
 use Rattle.demands.specs.Corners.{corners, unknownStart, strangers}
+use Rattle.demands.specs.Shared.{sharedSoundings, shapeSoundings}
+use Rattle.demands.specs.Edges.{leftBehind, edges, elevenSteps, elevenReport}
 use Rattle.demands.specs.Mistakes.{right, mistaken}
 
 pub record Sounded : Type 0 where
@@ -44,16 +53,42 @@ pub record Sounded : Type 0 where
   -- "A chart and its report, whole", and the numbers that the program goes by
   pub sample-report : report loopChart ≡ loopReport
   pub longest-chart : longestChart ≡ 2056
+  pub input-taken : length (taken (replicate 3000 0)) ≡ 2057
   pub passes-allowed : allPasses ≡ 262401
-  -- every refusal but 10: by the reader, the analysis, the checker and the totals; tables that pass, and sums
+  pub passes-enough : passesFor 3 1 2 ≡ 16
+  -- how the program ends: which inputs are refused, and the status of a report and of a refusal, written whole and not
+  pub sample-not-refused : refuses loopChart ≡ false
+  pub no-bytes-refused : refuses [] ≡ true
+  -- the text says so too, for every input: it begins with the r of "refused" or the n of "nodes"
+  pub refusal-told : (input : List ℕ) → getD (report input) 0 0 ≡ cond (refuses input) 114 110
+  pub endings : (endingOf false true ∷ endingOf true true ∷ endingOf false false ∷ endingOf true false ∷ []) ≡ 0 ∷ 1 ∷ 2 ∷ 2 ∷ []
+  -- refusals by the reader, the analysis, the checker and the totals; tables that pass, and sums
   pub damaged-hold : Hold damaged
   pub unanalysed-hold : Hold unanalysed
   pub unchecked-hold : Hold unchecked
   pub looser-hold : Hold looser
   pub untotalled-hold : Hold untotalled
   pub summed-hold : Hold summed
+  -- what analysis and plain machine share
+  pub shared-hold : Hold sharedSoundings
+  pub shapes-hold : Hold shapeSoundings
+  -- tails, buffers without places, the largest costs, eight ways, marks after each pass, a report of two-digit nodes
+  pub left-behind-hold : Hold leftBehind
+  pub edges-hold : Hold edges
+  pub eleven-report : report elevenSteps ≡ elevenReport
+  -- a class, by any ages
+  pub hit-called : (limit must may : ℕ) → must < limit → classBy limit must may ≡ 1
+  pub miss-called : (limit must may : ℕ) → limit ≤ must → may ≡ limit → classBy limit must may ≡ 2
+  pub unsure-called : (limit must may : ℕ) → limit ≤ must → (may ≡ limit → ⊥) → classBy limit must may ≡ 3
+  -- the plain machine pays k times as much where both costs are k times as high
+  pub cost-scales : (chart : Chart) (k hitCost missCost : ℕ) (ts : List ℕ) (contents : Contents chart)
+      → costOf chart (k * hitCost) (k * missCost) ts contents ≡ k * costOf chart hitCost missCost ts contents
+  -- the reader's: fields, kinds, and the limits
+  pub chart-sounded : ChartSounded
   -- corners that document 01's soundings leave out
   pub corners-hold : Hold corners
   -- "How my spreadsheet would fool you": what is right, and what each mistake reads
   pub right-hold : Hold right
   pub mistaken-hold : Hold mistaken
+  -- how many soundings each list has: none is dropped unseen
+  pub how-many : map length (chartFields ∷ starred ∷ damaged ∷ unanalysed ∷ unchecked ∷ looser ∷ untotalled ∷ summed ∷ corners ∷ sharedSoundings ∷ shapeSoundings ∷ leftBehind ∷ edges ∷ right ∷ mistaken ∷ []) ≡ 12 ∷ 13 ∷ 26 ∷ 13 ∷ 13 ∷ 10 ∷ 20 ∷ 7 ∷ 16 ∷ 13 ∷ 6 ∷ 11 ∷ 12 ∷ 6 ∷ 6 ∷ []

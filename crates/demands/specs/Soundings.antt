@@ -1,9 +1,9 @@
 -- The starred soundings of document 01, "Soundings on both sides of the mark", as one list: what the definitions give, and what the
 -- paper says.
 use Prim.Native.Nat.{ℕ}
-use mathlib.Core.Path.{_≡_}
 use mathlib.Core.List.{List, [], _∷_, _++_, map}
 use lib.ListN.{replicate}
+use Rattle.lists.specs.Soundings.{Sounding, _reads_}
 use Rattle.chart.specs.Geometry.{allPasses}
 use Rattle.chart.specs.Header.{headerIn}
 use Rattle.chart.specs.Chart.{Chart, chartIn}
@@ -11,7 +11,7 @@ use Rattle.cache.specs.Ages.{Columns, Ages, touchAges, meetAges}
 use Rattle.cache.specs.Plain.{emptyCache}
 use Rattle.costs.specs.Costs.{Prices}
 use Rattle.analysis.specs.Analysis.{Buffers, tableIn, analysed}
-use Rattle.totals.specs.Totals.{totals, totalsSay}
+use Rattle.totals.specs.Totals.{totalSays}
 use Rattle.report.specs.Report.{zeroBuffers}
 use Rattle.machine.specs.Machine.{costOf}
 use Rattle.demands.specs.Charts.{oneSetTwoWaysEmpty, oneSetTwoWays, oneSetOneWay, twoSetsOneWay, loopChart, straightChart}
@@ -51,8 +51,8 @@ loopPrices =
 
 abbrev pub loopTotals : List ℕ
 loopTotals =
-    totalsSay (totals loopChart (tableIn (after loopChart)) loopPrices) .low
-    ∷ totalsSay (totals loopChart (tableIn (after loopChart)) loopPrices) .high
+    totalSays loopChart (tableIn (after loopChart)) loopPrices .low
+    ∷ totalSays loopChart (tableIn (after loopChart)) loopPrices .high
     ∷ []
 
 abbrev pub loop : Chart
@@ -63,18 +63,6 @@ abbrev pub tenTurns : List ℕ
 tenTurns = replicate 10 1 ++ 2 ∷ []
 
 -- ---- the list
-
-pub record Sounding : Type 0 where
-  pub given : List ℕ
-  pub wanted : List ℕ
-
-infix 30 _reads_
-abbrev pub _reads_ : List ℕ → List ℕ → Sounding
-given reads wanted = record { given = given; wanted = wanted }
-
--- Every sounding of a list gives what is wanted.
-abbrev pub Hold : List Sounding → Type 0
-Hold soundings = map (λ (s : Sounding). s .given) soundings ≡ map (λ (s : Sounding). s .wanted) soundings
 
 abbrev pub row : List ℕ
 row = 0 ∷ 1 ∷ 1 ∷ 3 ∷ 4 ∷ []

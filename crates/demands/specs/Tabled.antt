@@ -3,20 +3,21 @@
 use Prim.Native.Nat.{ℕ}
 use mathlib.Core.List.{List, [], _∷_}
 use lib.ListN.{set, take}
+use Rattle.lists.specs.Soundings.{Sounding, _reads_}
 use Rattle.tables.specs.Lent.{Lent}
 use Rattle.analysis.specs.Analysis.{tableIn}
-use Rattle.checker.specs.Checker.{checked, checkedSays}
+use Rattle.checker.specs.Checker.{checkSays}
 use Rattle.costs.specs.Costs.{Prices}
-use Rattle.totals.specs.Totals.{totals, totalsSay}
+use Rattle.totals.specs.Totals.{totalSays}
 use Rattle.report.specs.Report.{zeroBuffers}
-use Rattle.demands.specs.Soundings.{Sounding, _reads_, after, loopPrices}
+use Rattle.demands.specs.Soundings.{after, loopPrices}
 use Rattle.demands.specs.Charts.{loopChart, straightChart, oneSetTwoWaysEmpty}
 
 -- ---- by the checker: 11, yes and no
 
 -- The number, and yes or no.
 abbrev pub checking : List ℕ → Lent → List ℕ
-checking bytes table = checkedSays (checked bytes table) .number ∷ checkedSays (checked bytes table) .yes ∷ []
+checking bytes table = checkSays bytes table .number ∷ checkSays bytes table .yes ∷ []
 
 -- The tables of the loop chart, and of it without the way out of its loop, whose node 2 is not reached.
 abbrev pub loopTable : Lent
@@ -84,10 +85,10 @@ looser =
 -- The number, the place, and the two totals.
 abbrev pub totalling : List ℕ → Lent → Prices → List ℕ
 totalling bytes table prices =
-    totalsSay (totals bytes table prices) .number
-    ∷ totalsSay (totals bytes table prices) .place
-    ∷ totalsSay (totals bytes table prices) .low
-    ∷ totalsSay (totals bytes table prices) .high
+    totalSays bytes table prices .number
+    ∷ totalSays bytes table prices .place
+    ∷ totalSays bytes table prices .low
+    ∷ totalSays bytes table prices .high
     ∷ []
 
 abbrev pub priced : ℕ → ℕ → List ℕ → List ℕ → Prices

@@ -1,9 +1,9 @@
 -- What a machine pays along a walk lies between what each visit is said to cost at least and at most, times its visits.
-use mathlib.Core.Bool.{cond}
+use mathlib.Core.Bool.{Bool, true, false, cond}
 use mathlib.Core.List.{List, [], _∷_}
-use mathlib.Core.Path.{_≡_, sym, _∙_}
+use mathlib.Core.Path.{_≡_, sym, ap, _∙_}
 use Prim.Native.Nat.{ℕ, _+_, _*_, _≤_, _<_, zero-le}
-use native.Mathlib.Nat.{add-le-add, add-mul, zero-mul, mul-le-mul-right}
+use native.Mathlib.Nat.{add-le-add, add-mul, zero-mul, mul-zero, mul-add, mul-le-mul-right}
 use native.Mathlib.Omega.{arith}
 use lib.Dec.{eqb}
 use Rattle.lists.specs.Lists.{sumOf}
@@ -14,6 +14,25 @@ use Rattle.flow.specs.Walk.{visitsOf, inTurn, Machine, paidAt, paid, AtN
 abbrev along : (ℕ → ℕ) → List ℕ → ℕ
 along cost [] = 0
 along cost (n ∷ ns) = cost n + along cost ns
+
+-- ---- where both costs are k times as high, k times as much is paid
+
+module _ {E : Type 0} (M : Machine E) (k hit miss : ℕ) where
+  paid-at-scales : (es : List E) (c : M .Contents) → paidAt M (k * hit) (k * miss) es c ≡ k * paidAt M hit miss es c
+  paid-at-scales [] c = sym (mul-zero k)
+  paid-at-scales (e ∷ es) c = go (M .finds e c) (paid-at-scales es (M .act e c))
+    where
+      go : (t : Bool) → paidAt M (k * hit) (k * miss) es (M .act e c) ≡ k * paidAt M hit miss es (M .act e c)
+          → cond t (k * hit) (k * miss) + paidAt M (k * hit) (k * miss) es (M .act e c) ≡ k * (cond t hit miss + paidAt M hit miss es (M .act e c))
+      go true rest = ap (λ (x : ℕ). k * hit + x) rest ∙ sym (mul-add k hit _)
+      go false rest = ap (λ (x : ℕ). k * miss + x) rest ∙ sym (mul-add k miss _)
+
+  pub paid-scales : (touches : ℕ → List E) (n : ℕ) (ts : List ℕ) (c : M .Contents) → paid M (k * hit) (k * miss) touches n ts c ≡ k * paid M hit miss touches n ts c
+  paid-scales touches n [] c = paid-at-scales (touches n) c
+  paid-scales touches n (t ∷ ts) c =
+      let here = paid-at-scales (touches n) c in
+      let rest = paid-scales touches t ts (inTurn (M .act) (touches n) c) in
+      (λ i. here i + rest i) ∙ sym (mul-add k _ _)
 
 -- ---- the machine's cost, node by node
 

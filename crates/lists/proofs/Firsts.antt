@@ -1,11 +1,13 @@
 -- The first number that passes a test: it passes, and none before it does.
 use Prim.Native.Nat.{ℕ, zero, suc, _+_, _≤_, _<_}
 use mathlib.Core.Bool.{Bool, true, false}
+use mathlib.Core.Logic.{⊎-elim}
 use mathlib.Core.Path.{_≡_, refl}
 use native.Mathlib.Decide.{ℕ-discrete}
 use native.Mathlib.Omega.{arith}
 use Rattle.lists.specs.Choice.{firstFrom, first}
 use Rattle.lists.proofs.Choice.{first-most}
+use Rattle.lists.proofs.Orders.{below-or}
 
 from-passes : (k left : ℕ) (test : ℕ → Bool) → firstFrom k left test < k + left → test (firstFrom k left test) ≡ true
 from-passes k zero test h = absurd (omega arith)
@@ -24,6 +26,9 @@ from-fails k (suc left) test i low h = go (test k) refl (from-fails (suc k) left
     go false q rest (yes e) = rw e q
     go false q rest (no e) = let z : i < firstFrom (suc k) left test = (rw q at h) in rest (omega arith) z
 
+true-not-false : {t : Bool} → t ≡ true → t ≡ false → ⊥
+true-not-false e d = let z : _≡_ {A = ℕ} 0 1 = cc in omega arith
+
 module _ (n : ℕ) (test : ℕ → Bool) where
   pub first-test : first n test < n → test (first n test) ≡ true
   first-test h = from-passes 0 n test (omega arith)
@@ -33,3 +38,13 @@ module _ (n : ℕ) (test : ℕ → Bool) where
 
   pub first-within : first n test ≤ n
   first-within = omega (arith, first-most 0 n test)
+
+  -- One that passes, and none before it does.
+  pub first-is : (k : ℕ) → k < n → test k ≡ true → ((i : ℕ) → i < k → test i ≡ false) → first n test ≡ k
+  first-is k h passes fails = ⊎-elim earlier (λ late. ⊎-elim later (λ early. omega arith) (below-or k (first n test))) (below-or (first n test) k)
+    where
+      earlier : first n test < k → first n test ≡ k
+      earlier less = absurd (true-not-false (first-test (omega arith)) (fails (first n test) less))
+
+      later : k < first n test → first n test ≡ k
+      later more = absurd (true-not-false passes (first-fails k more))

@@ -7,3 +7,4 @@ pub mod Sums
 pub mod Joined
 pub mod Same
 pub mod Firsts
+pub mod Telling

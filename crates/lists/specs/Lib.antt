@@ -2,3 +2,5 @@ pub mod Choice
 pub mod Lists
 pub mod Loops
 pub mod Slices
+pub mod Telling
+pub mod Soundings

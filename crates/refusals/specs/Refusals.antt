@@ -41,16 +41,3 @@ placeOf BoundsLength = 0
 placeOf Costs = 0
 placeOf (FloorAboveCeiling node) = node
 placeOf (FloorAtUnmarked node) = node
-
--- What every answer begins with, refusal or not, whichever function gives it: "Every refusal returns its number and place". What comes
--- after them is that function's own.
-pub record Said : Type 0 where
-  pub number : ℕ
-  pub place : ℕ
-
-abbrev pub refusalSays : Refusal → Said
-refusalSays refusal = record { number = numberOf refusal; place = placeOf refusal }
-
--- An answer that is no refusal.
-abbrev pub noRefusal : Said
-noRefusal = record { number = 0; place = 0 }

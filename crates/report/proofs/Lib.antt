@@ -3,3 +3,4 @@ pub mod Digits
 pub mod Parts
 pub mod Zeros
 pub mod Inputs
+pub mod Refusing

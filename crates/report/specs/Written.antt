@@ -1,5 +1,6 @@
 -- A text in an array of fixed size, and what the crate's inner functions promise of a text that is being written.
 -- Nothing here is document 01's.
+use mathlib.Core.Bool.{Bool}
 use mathlib.Core.List.{List}
 use mathlib.Core.Path.{_≡_}
 use Prim.Native.Nat.{ℕ, _+_, _*_, _≤_}
@@ -9,7 +10,10 @@ use Rattle.lists.specs.Lists.{padded}
 use Rattle.chart.specs.Geometry.{mostNodes}
 use Rattle.chart.specs.declared.headers.HeaderRead.{HeaderRead}
 use Rattle.chart.specs.declared.headers.HeaderRead.the-variants.{Accepted, Refused}
+use Rattle.analysis.specs.Analysis.{Left}
 use Rattle.report.specs.declared.text.Text.{Text}
+use Rattle.report.specs.Report.{reportLeft}
+use Rattle.report.specs.Ending.{refusedBy}
 
 -- The most digits of a number, and the most letters of a class.
 abbrev pub mostDigits : ℕ
@@ -34,9 +38,14 @@ mostRefused = 13 + 2 * mostDigits
 abbrev pub mostText : ℕ
 mostText = mostFirst + mostNode * mostNodes
 
--- The bytes, zeros after them, and how many there are.
-unfoldable pub textOf : List ℕ → Text
-textOf bytes = record { bytes = padded mostText bytes; size = length bytes }
+-- The bytes, zeros after them, how many there are, and whether they are a refusal's line.
+unfoldable pub textOf : List ℕ → Bool → Text
+textOf bytes refused =
+    record { bytes = padded mostText bytes; size = length bytes; refused = refused }
+
+-- The text of what the analysis of these bytes left.
+abbrev pub textLeft : List ℕ → Left → Text
+textLeft bytes left = textOf (reportLeft bytes left) (refusedBy (left .answer))
 
 -- The nodes of an accepted header, and 0 for a refusal.
 abbrev pub nodesRead : HeaderRead → ℕ

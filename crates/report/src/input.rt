@@ -4,8 +4,9 @@ ghost use Prim.Native.Nat.{_≤_};
 ghost use Rattle.chart.specs.Header.{headerRead};
 ghost use Rattle.chart.specs.Geometry.{mostNodes, mostBlocks, allPasses};
 ghost use Rattle.analysis.specs.Analysis.{analysed};
-ghost use Rattle.report.specs.Report.{zeroBuffers, reportLeft, report as defined};
-ghost use Rattle.report.specs.Written.{mostText, textOf, nodesRead};
+ghost use Rattle.report.specs.Report.{zeroBuffers, report as defined};
+ghost use Rattle.report.specs.Ending.{refuses};
+ghost use Rattle.report.specs.Written.{mostText, textOf, textLeft, nodesRead};
 use crate::text::Text;
 use crate::text::written;
 use chart::Geometry;
@@ -27,7 +28,7 @@ fn nodes_of(chart: &[u8]) -> usize
 
 // The report of any bytes, analysed in buffers of zeros for the largest chart.
 fn report_bytes(chart: &[u8]) -> Text
-    ensures { λ r. ⌜ r ≡ textOf (reportLeft (now (chart .entry)) (analysed (now (chart .entry)) allPasses (zeroBuffers mostNodes mostBlocks))) ⌝ }
+    ensures { λ r. ⌜ r ≡ textLeft (now (chart .entry)) (analysed (now (chart .entry)) allPasses (zeroBuffers mostNodes mostBlocks)) ⌝ }
     ensures { λ r. ⌜ r .size ≤ mostText ⌝ }
 {
     let mut blocks = [0u32; Geometry::BLOCKS];
@@ -50,7 +51,7 @@ fn report_bytes(chart: &[u8]) -> Text
 
 // The report of any input: of its first 2,057 bytes, within 262,401 passes.
 pub fn report(input: &[u8]) -> Text
-    ensures { λ r. ⌜ r ≡ textOf (defined (now (input .entry))) ⌝ }
+    ensures { λ r. ⌜ r ≡ textOf (defined (now (input .entry))) (refuses (now (input .entry))) ⌝ }
     ensures { λ r. ⌜ r .size ≤ mostText ⌝ }
 {
     let size = input.len();

@@ -1,10 +1,12 @@
-// The report as a value: its bytes in an array, and how many there are.
+// The report as a value: its bytes in an array, how many there are, and whether they are a refusal's line.
 ghost use mathlib.Core.Path.{_≡_};
 ghost use Prim.Native.Nat.{_≤_};
 ghost use lib.ListN.{length};
 ghost use Rattle.chart.specs.Geometry.{mostNodes};
 ghost use Rattle.report.specs.Report.{reportOf};
+ghost use Rattle.report.specs.Ending.{refusedBy};
 ghost use Rattle.report.specs.Written.{mostText, textOf};
+use crate::endings::refused_by;
 use crate::lines::put_refused;
 use crate::lines::put_settled;
 use analysis::Analysed;
@@ -15,6 +17,7 @@ use refusals::Refusal;
 pub struct Text {
     pub bytes: [u8; Text::MOST],
     pub size: usize,
+    pub refused: bool,
 }
 
 impl Text {
@@ -35,9 +38,10 @@ impl Text {
 pub(crate) fn written(nodes: usize, classes: &[u8], answer: Analysed) -> Text
     requires { ⌜ nodes ≤ mostNodes ⌝ }
     requires { ⌜ nodes ≤ length (now classes) ⌝ }
-    ensures { λ r. ⌜ r ≡ textOf (reportOf nodes (now (classes .entry)) answer) ⌝ }
+    ensures { λ r. ⌜ r ≡ textOf (reportOf nodes (now (classes .entry)) answer) (refusedBy answer) ⌝ }
     ensures { λ r. ⌜ r .size ≤ mostText ⌝ }
 {
+    let refused = refused_by(answer);
     let mut bytes = [0u8; Text::MOST];
     let size = match answer {
         Analysed::Settled { passes, blocks } => put_settled(
@@ -56,5 +60,6 @@ pub(crate) fn written(nodes: usize, classes: &[u8], answer: Analysed) -> Text
     Text {
         bytes: bytes,
         size: size,
+        refused: refused,
     }
 }

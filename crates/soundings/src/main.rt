@@ -1,8 +1,19 @@
-// A program that runs document 01's sounding of the totals: the loop chart is analysed, its table checked, and its totals taken.
+// A program that runs document 01's sounding of the totals: the loop chart is analysed, its table checked, and its totals taken. It reads a
+// record that writes, and stands on the proofs of the three demands and of the soundings.
+mod demanded;
 mod sounding;
 
+use crate::demanded::asked_anything;
+use crate::demanded::says_most;
+use crate::demanded::says_so;
+use crate::demanded::sounded;
+use crate::sounding::are_bytes;
 use crate::sounding::loop_checked;
 use crate::sounding::loop_totals;
+use crate::sounding::three_kinds;
+use crate::sounding::written_node;
+use chart::Node;
+use chart::Record;
 use checker::Checked;
 use libc::STDOUT_FILENO;
 use refusals::Refusal;
@@ -46,8 +57,48 @@ fn print_totals(answer: Totals) {
     }
 }
 
-// Writes what the checker and the totals answer.
+// Writes what a record does, as `writes 64`.
+fn print_record(what: Record) {
+    let Record::Reference(reference) = what else {
+        io::write_all(STDOUT_FILENO, b"step");
+        return;
+    };
+    if reference.write {
+        print_named(b"writes ", reference.address as u64);
+    } else {
+        print_named(b"reads ", reference.address as u64);
+    }
+}
+
+// Writes a node, as `writes 64, 1 arrows, first 2, second 0`.
+fn print_node(node: Node) {
+    let what = node.what;
+    let targets = node.targets;
+    print_record(what);
+    print_named(b", ", targets.outs as u64);
+    print_named(b" arrows, first ", targets.first as u64);
+    print_named(b", second ", targets.second as u64);
+    io::write_all(STDOUT_FILENO, b"\n");
+}
+
+// Writes which claims are proved: it calls what promises them.
+fn print_demanded() {
+    asked_anything();
+    io::write_all(STDOUT_FILENO, b"demand 1 is proved\n");
+    says_most();
+    io::write_all(STDOUT_FILENO, b"demand 2 is proved\n");
+    says_so();
+    io::write_all(STDOUT_FILENO, b"demand 3 is proved\n");
+    sounded();
+    io::write_all(STDOUT_FILENO, b"the soundings are proved\n");
+}
+
+// Writes what the checker and the totals answer, a node that writes, and what is proved.
 fn main() {
     print_checked(loop_checked());
     print_totals(loop_totals());
+    let bytes = three_kinds();
+    print_node(written_node());
+    are_bytes(&bytes);
+    print_demanded();
 }

@@ -3,9 +3,14 @@ ghost use mathlib.Core.Path.{_≡_};
 ghost use Rattle.analysis.specs.Analysis.{tableIn};
 ghost use Rattle.checker.specs.declared.Checked.the-variants.{Passes};
 ghost use Rattle.totals.specs.declared.Totals.the-variants.{Between};
+ghost use mathlib.Core.List.{[], _∷_};
+ghost use Prim.Native.Nat.{_<_};
+ghost use Rattle.chart.specs.Bytes.{AreBytes};
+ghost use Rattle.chart.specs.Sounded.{threeKinds, nodeOut};
 ghost use Rattle.demands.specs.Charts.{loopChart};
 ghost use Rattle.demands.specs.Soundings.{after};
 use chart::Geometry;
+use chart::Node;
 use checker::Checked;
 use totals::Totals;
 
@@ -76,4 +81,38 @@ pub(crate) fn loop_totals() -> Totals
     let floors = [1u16, 1, 1];
     let ceilings = [1u16, 10, 1];
     totals::total(&chart, &must, &may, &marks, 1, 10, &floors, &ceilings)
+}
+
+// Bytes that hold a read, a write and a step; they are no chart, since there are fewer records than their header says.
+pub(crate) fn three_kinds() -> [u8; 32]
+    ensures { λ r. ⌜ r ≡ threeKinds ⌝ }
+{
+    *b"\x01\x53\x64\x00\x0F\xF1\x23\x00\
+       \x77\xAB\x6F\xBB\xE1\x23\x45\x60\
+       \xB7\xAB\x6F\xBB\xE1\x23\x45\x60\
+       \x37\xAB\x6F\xBB\xE1\x23\x45\x60"
+}
+
+// What the record of node 1 in them says.
+pub(crate) fn written_node() -> Node
+    ensures { λ r. ⌜ nodeOut r ≡ 2 ∷ 0xDEADBEEF ∷ 2 ∷ 0x123 ∷ 0x456 ∷ [] ⌝ }
+{
+    let chart = three_kinds();
+    chart::node_at(&chart, 1)
+}
+
+fn wide(byte: u8) -> u64
+    ensures { λ r. ⌜ (r ≡ byte) × (r < 256) ⌝ }
+{
+    byte as u64
+}
+
+// Whatever bytes are lent are numbers below 256, which is all that demand 1 asks where it goes byte by byte.
+pub(crate) fn are_bytes(lent: &[u8])
+    ensures { λ _. ⌜ AreBytes (now (lent .entry)) ⌝ }
+{
+    let count = lent.len();
+    for k in 0..count {
+        wide(lent[k]);
+    }
 }

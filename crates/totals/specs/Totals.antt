@@ -79,3 +79,7 @@ totalRead lent prices (refused refusal) = Refused refusal
 
 unfoldable pub totals : List ℕ → Lent → Prices → Totals
 totals bytes lent prices = totalRead lent prices (readChart bytes)
+
+-- The same in numbers.
+abbrev pub totalSays : List ℕ → Lent → Prices → TotalsSaid
+totalSays bytes lent prices = totalsSay (totals bytes lent prices)

@@ -5,7 +5,7 @@ mod sums;
 ghost use mathlib.Core.Path.{_≡_};
 ghost use Rattle.plan.specs.Listed.{DrawnIn, planAt};
 ghost use Rattle.tables.specs.Contract.{entryTable, RoomFor};
-ghost use Rattle.totals.specs.Totals.{entryPrices, totalledBy, totals};
+ghost use Rattle.totals.specs.Totals.{entryPrices, totalledBy, totals, totalsSay, totalSays};
 use crate::bounds::first_crossed;
 use crate::bounds::first_floor_at_unmarked;
 use crate::sums::Tariff;
@@ -74,6 +74,7 @@ pub fn total(
     ceilings: &[u16],
 ) -> Totals
     ensures { λ r. ⌜ r ≡ totals (now (chart .entry)) (entryTable must may marks) (entryPrices hit miss floors ceilings) ⌝ }
+    ensures { λ r. ⌜ totalsSay r ≡ totalSays (now (chart .entry)) (entryTable must may marks) (entryPrices hit miss floors ceilings) ⌝ }
 {
     let mut columns = [0u8; plan::COLUMNS];
     let mut plan = [0u16; plan::LENGTH];

@@ -6,8 +6,14 @@ mod chart;
 mod header;
 mod pack;
 pub mod random;
+mod random_arrows;
 pub mod random_blocks;
 pub mod random_charts;
+mod random_crowds;
+mod random_damage;
+pub mod random_edges;
+mod random_loose;
+mod random_reached;
 mod record;
 
 pub use chart::Chart;

@@ -34,4 +34,12 @@ impl Random {
     pub fn once_in(&mut self, turns: u64) -> bool {
         self.below(turns) == 0
     }
+
+    /// The same in any order.
+    pub fn mix<T>(&mut self, list: &mut [T]) {
+        for place in (1..list.len()).rev() {
+            let other = self.below(place as u64 + 1) as usize;
+            list.swap(place, other);
+        }
+    }
 }

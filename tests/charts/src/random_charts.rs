@@ -1,21 +1,20 @@
-//! Random charts: whole ones, which may have a block too many and break no other rule, and damaged ones.
+//! Random charts of all kinds: whole ones, which may have a block too many and break no other rule, and damaged ones.
 
 use crate::random::Random;
-use crate::{Chart, Header, Record};
+use crate::random_edges::at_an_edge;
+use crate::random_loose::loose;
+use crate::random_reached::reached;
+use crate::Chart;
+
+pub use crate::random_damage::damaged;
 
 const NODES: u64 = second::limits::NODES as u64;
-const BLOCKS: u64 = second::limits::BLOCKS as u64;
-
-/// How most arrows of a chart run. Left to chance alone, few nodes are reached and few passes are made.
-#[derive(Clone, Copy)]
-enum Course {
-    Any,
-    Onward,
-    Back,
-}
 
 /// A chart with no fault but perhaps a block too many.
 pub fn whole(random: &mut Random) -> Chart {
+    if random.once_in(8) {
+        return at_an_edge(random);
+    }
     let nodes = match random.below(4) {
         0 => random.within(1, 4),
         1 => random.within(1, 60),
@@ -25,155 +24,11 @@ pub fn whole(random: &mut Random) -> Chart {
     of_nodes(random, nodes)
 }
 
-/// A chart of so many nodes with no fault but perhaps a block too many.
+/// A chart of so many nodes with no fault but perhaps a block too many. Most reach most of their nodes.
 pub fn of_nodes(random: &mut Random, nodes: u64) -> Chart {
-    let course = match random.below(3) {
-        0 => Course::Any,
-        1 => Course::Onward,
-        _ => Course::Back,
-    };
-    let header = header(random, nodes, course);
-    let pool = pool(random, header.line);
-    let mut fresh = 0;
-    let records = (0..nodes)
-        .map(|node| {
-            let record = record(random, &pool, &mut fresh);
-            with_arrows(random, record, node, nodes, course)
-        })
-        .collect();
-    Chart { header, records }
-}
-
-/// A header without fault. Half of the caches have few sets, so that blocks come into each other's way.
-fn header(random: &mut Random, nodes: u64, course: Course) -> Header {
-    let most_sets = if random.once_in(2) { 2 } else { 8 };
-    let entry = match course {
-        Course::Any => random.below(nodes),
-        Course::Onward => random.below(nodes.min(3)),
-        Course::Back => nodes - 1 - random.below(nodes.min(3)),
-    };
-    Header {
-        edition: 1,
-        line: random.within(2, 8),
-        sets: random.within(0, most_sets),
-        ways: random.within(1, 8),
-        start: random.below(2),
-        spare: 0,
-        nodes,
-        entry,
-        tail: 0,
-    }
-}
-
-/// The first addresses of the blocks that a chart may touch. Often they are few, so that one is touched again soon, and often they
-/// number about the most, to come near the limit from both sides.
-fn pool(random: &mut Random, line: u64) -> Vec<u64> {
-    let size = match random.below(5) {
-        0 | 1 => random.within(1, 5),
-        2 => random.within(5, 15),
-        3 => random.within(BLOCKS - 1, BLOCKS + 2),
-        _ => random.within(1, 100),
-    };
-    (0..size).map(|_| random.below(1 << 32) >> line << line).collect()
-}
-
-/// A record that keeps its rules, without arrows. It takes the pool's next block, or now and then any of it, and any byte of the
-/// block's first four.
-fn record(random: &mut Random, pool: &[u64], fresh: &mut usize) -> Record {
-    let block = if random.once_in(4) {
-        random.below(pool.len() as u64) as usize
+    if random.once_in(4) {
+        loose(random, nodes)
     } else {
-        *fresh += 1;
-        (*fresh - 1) % pool.len()
-    };
-    let address = pool[block] + random.below(4);
-    match random.below(10) {
-        0 => Record::step(),
-        1..=6 => Record::read(address),
-        _ => Record::write(address),
-    }
-}
-
-/// The record with up to two arrows. Off the course they lead anywhere, to the last node more often than to others.
-fn with_arrows(random: &mut Random, record: Record, node: u64, nodes: u64, course: Course) -> Record {
-    let outs = match course {
-        Course::Any => random.below(3),
-        Course::Onward | Course::Back => match random.below(40) {
-            0 => 0,
-            1..=24 => 1,
-            _ => 2,
-        },
-    };
-    (0..outs).fold(record, |record, _| {
-        let target = match course {
-            Course::Onward if !random.once_in(8) => (node + random.within(0, 2)).min(nodes - 1),
-            Course::Back if !random.once_in(8) => node.saturating_sub(random.within(0, 2)),
-            _ if random.once_in(4) => nodes - 1,
-            _ => random.below(nodes),
-        };
-        record.to(target)
-    })
-}
-
-/// The bytes of a chart after up to three damages.
-pub fn damaged(random: &mut Random, mut chart: Chart) -> Vec<u8> {
-    let damages = random.below(4);
-    for _ in 0..damages {
-        match random.below(3) {
-            0 => damage_header(random, &mut chart.header),
-            1 => damage_record(random, &mut chart),
-            _ => {}
-        }
-    }
-    let mut bytes = chart.bytes();
-    for _ in 0..damages {
-        if random.once_in(4) {
-            damage_bytes(random, &mut bytes);
-        }
-    }
-    bytes
-}
-
-/// Gives one header field any value that it can hold, near an end of what is allowed as often as not.
-fn damage_header(random: &mut Random, header: &mut Header) {
-    match random.below(9) {
-        0 => header.edition = random.below(256),
-        1 => header.line = random.below(16),
-        2 => header.sets = random.below(16),
-        3 => header.ways = random.below(16),
-        4 => header.start = random.below(4),
-        5 => header.spare = random.below(1024),
-        6 if random.once_in(2) => header.nodes = random.below(NODES + 44),
-        6 => header.nodes = random.below(4096),
-        7 if random.once_in(2) => header.entry = random.within(header.nodes.saturating_sub(1), header.nodes).min(4095),
-        7 => header.entry = random.below(4096),
-        _ => header.tail = random.below(256),
-    }
-}
-
-/// Gives one field of one record any value that it can hold.
-fn damage_record(random: &mut Random, chart: &mut Chart) {
-    let nodes = chart.records.len() as u64;
-    let record = &mut chart.records[random.below(nodes) as usize];
-    match random.below(6) {
-        0 => record.kind = random.below(4),
-        1 => record.address = random.below(1 << 32),
-        2 => record.outs = random.below(4),
-        3 => record.first = random.within(nodes - 1, nodes + 1),
-        4 => record.second = random.within(nodes - 1, nodes + 1),
-        _ => record.spare = random.below(16),
-    }
-}
-
-/// Flips a bit, or takes bytes away from the end, or adds some.
-fn damage_bytes(random: &mut Random, bytes: &mut Vec<u8>) {
-    let size = bytes.len() as u64;
-    match random.below(6) {
-        0 => bytes.truncate(random.below(9) as usize),
-        1 => bytes.truncate(random.below(size + 1) as usize),
-        2 => bytes.truncate(size.saturating_sub(1) as usize),
-        3 => bytes.resize((size + random.within(1, 16)) as usize, 0),
-        _ if size == 0 => bytes.push(1),
-        _ => bytes[random.below(size) as usize] ^= 1 << random.below(8),
+        reached(random, nodes)
     }
 }

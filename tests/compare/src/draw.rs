@@ -4,17 +4,22 @@ use crate::lent::{Lengths, NAMES};
 use crate::tally::Tally;
 use charts::random::Random;
 use charts::random_charts::{damaged, of_nodes};
+use charts::random_edges::at_an_edge;
 use second::limits::{NODES, PASSES};
 
-/// A chart, whole or damaged. Small ones are quick and have most of what can go wrong; few are large.
+/// A chart, whole or damaged. Small ones are quick and have most of what can go wrong; few are large, but for those at an edge.
 pub fn chart(random: &mut Random) -> Vec<u8> {
     let nodes = match random.below(200) {
-        0..=139 => random.within(1, 8),
-        140..=185 => random.within(9, 24),
+        0..=139 => random.within(1, 10),
+        140..=185 => random.within(11, 24),
         186..=195 => random.within(25, 80),
         _ => random.within(81, NODES as u64),
     };
-    let chart = of_nodes(random, nodes);
+    let chart = if random.once_in(16) {
+        at_an_edge(random)
+    } else {
+        of_nodes(random, nodes)
+    };
     if random.once_in(3) {
         return damaged(random, chart);
     }

@@ -10,6 +10,8 @@ pub const NODES: &str = "nodes";
 pub const BLOCKS: &str = "blocks";
 pub const PASSES: &str = "passes";
 pub const CLASS: &str = "class";
+/// Charts by how many tenths of their nodes are reached.
+pub const REACHED: &str = "tenths of the nodes reached";
 pub const GEOMETRY: &str = "geometry and start";
 
 /// The numbers of all shapes of a cache with both starts run from 0 to this, without it: 7 of L, 9 of S, those of A.
@@ -45,6 +47,8 @@ pub fn count(tally: &mut Tally, bytes: &[u8], chart: &Chart, settled: Settled, c
     tally.at(BLOCKS, chart.blocks.len());
     tally.at(PASSES, settled.passes);
     tally.at(GEOMETRY, geometry(chart));
+    let reached = classes.iter().filter(|&&class| class != 0).count();
+    tally.at(REACHED, 10 * reached / classes.len());
     let targets = |node: usize| chart.nodes[node].arrows.targets();
     let any = |like: &dyn Fn(usize) -> bool| (0..chart.nodes.len()).any(like);
     let entry = chart.header.entry;

@@ -5,6 +5,7 @@
 
 pub mod ask;
 pub mod bounds;
+pub mod crowds;
 pub mod draw;
 pub mod expected;
 pub mod features;

@@ -9,11 +9,17 @@ use crate::table::LentTable;
 use crate::tally::{Tally, ANSWER};
 use charts::random::Random;
 use veilbuzz::raw;
-use veilbuzz::{Costs, Refusal, Start, Unsettled};
+use veilbuzz::{Costs, Header, Refusal, Start, Unsettled};
 
 /// How the lengths of lists are counted.
 pub const ANSWER_LIST: &str = "answer list of length";
 pub const HEADER_LIST: &str = "header list of length";
+
+/// How the room in the two lists of veilbuzz_read is counted: 0 in neither, 1 in the header's alone, 2 in the answer's alone, 3 in both.
+pub const READ_ROOM: &str = "room in the lists of veilbuzz_read";
+
+/// What is returned where a list has no room for what is told in it.
+const NO_ROOM: u64 = 11;
 
 /// The numbers of a refusal: its number, its place, and zeros for what the function alone returns.
 fn refused<const NUMBERS: usize>(refusal: Refusal) -> [u64; NUMBERS] {
@@ -23,59 +29,71 @@ fn refused<const NUMBERS: usize>(refusal: Refusal) -> [u64; NUMBERS] {
     numbers
 }
 
-/// A list before numbers are told in it, and after: it stays as it was if they do not fit, and keeps what is behind them.
-fn list(random: &mut Random, numbers: &[u64]) -> (Guarded<u64>, Guarded<u64>) {
+/// A list for so many numbers, with room for them or not.
+fn list(random: &mut Random, numbers: usize) -> Guarded<u64> {
     let length = match random.below(12) as usize {
-        11 => numbers.len(),
+        11 => numbers,
         length => length,
     };
-    let before = Guarded::of(random, length, long);
-    let mut after = before.clone();
-    if let Some(places) = after.lent_mut().get_mut(..numbers.len()) {
-        places.copy_from_slice(numbers);
-    }
-    (before, after)
+    Guarded::of(random, length, long)
 }
 
-/// Holds a function to the numbers of its answer.
+fn has_room(list: &Guarded<u64>, numbers: usize) -> bool {
+    list.lent().len() >= numbers
+}
+
+/// A list after numbers were told in it: it keeps what is behind them.
+fn told(list: &Guarded<u64>, numbers: &[u64]) -> Guarded<u64> {
+    let mut list = list.clone();
+    list.lent_mut()[..numbers.len()].copy_from_slice(numbers);
+    list
+}
+
+/// Holds a function to the numbers of its answer, or where there are none, for want of room, to 11 and a list that is left as it was.
 fn tells<const NUMBERS: usize>(
-    random: &mut Random,
     tally: &mut Tally,
     what: &str,
-    numbers: [u64; NUMBERS],
+    mut answer: Guarded<u64>,
+    numbers: Option<[u64; NUMBERS]>,
     call: impl FnOnce(*mut u64, usize) -> u64,
 ) -> Held {
-    let (mut answer, told) = list(random, &numbers);
+    let told = numbers.map_or(answer.clone(), |numbers| told(&answer, &numbers));
     let length = answer.lent().len();
     let returned = call(answer.lent_mut().as_mut_ptr(), length);
-    same(&format!("what {what} returns"), &returned, &numbers[raw::NUMBER])?;
+    let number = numbers.map_or(NO_ROOM, |numbers| numbers[raw::NUMBER]);
+    same(&format!("what {what} returns"), &returned, &number)?;
     answer.same(&format!("the answer of {what}"), &told)?;
     tally.add(ANSWER);
     tally.at(ANSWER_LIST, length);
     Ok(())
 }
 
+/// The six numbers of a header.
+fn six(header: Header) -> [u64; raw::HEADER_LENGTH] {
+    let start = match header.start {
+        Start::Unknown => 0,
+        Start::Empty => 1,
+    };
+    [header.line, header.sets, header.ways, start, header.nodes, header.entry].map(|number| number as u64)
+}
+
 pub fn read(random: &mut Random, tally: &mut Tally, chart: &[u8]) -> Held {
-    let expected = expected::read(chart);
-    let six = expected.map_or(vec![], |header| {
-        let start = match header.start {
-            Start::Unknown => 0,
-            Start::Empty => 1,
-        };
-        [header.line, header.sets, header.ways, start, header.nodes, header.entry]
-            .map(|number| number as u64)
-            .to_vec()
-    });
-    let (mut header, mut told) = list(random, &[0; raw::HEADER_LENGTH]);
-    if six.is_empty() {
-        told = header.clone();
-    } else if let Some(places) = told.lent_mut().get_mut(..six.len()) {
-        places.copy_from_slice(&six);
-    }
+    let (mut header, answer) = (list(random, raw::HEADER_LENGTH), list(random, raw::READ_LENGTH));
+    let room = [
+        has_room(&header, raw::HEADER_LENGTH),
+        has_room(&answer, raw::READ_LENGTH),
+    ];
+    let expected = (room == [true, true]).then(|| expected::read(chart));
+    let left = match expected {
+        Some(Ok(accepted)) => told(&header, &six(accepted)),
+        _ => header.clone(),
+    };
+    let numbers = expected
+        .map(|expected| expected.map_or_else(refused::<{ raw::READ_LENGTH }>, |header| [0, 0, header.blocks as u64]));
     tally.at(HEADER_LIST, header.lent().len());
-    let numbers = expected.map_or_else(refused::<{ raw::READ_LENGTH }>, |header| [0, 0, header.blocks as u64]);
+    tally.at(READ_ROOM, usize::from(room[0]) + 2 * usize::from(room[1]));
     let place = header.lent_mut();
-    tells(random, tally, "veilbuzz_read", numbers, |answer, length| unsafe {
+    tells(tally, "veilbuzz_read", answer, numbers, |answer, length| unsafe {
         raw::veilbuzz_read(
             chart.as_ptr(),
             chart.len(),
@@ -85,18 +103,20 @@ pub fn read(random: &mut Random, tally: &mut Tally, chart: &[u8]) -> Held {
             length,
         )
     })?;
-    header.same("the header", &told)
+    header.same("the header", &left)
 }
 
 pub fn analyse(random: &mut Random, tally: &mut Tally, chart: &[u8], allowance: usize, lent: &Lent) -> Held {
     let (mut ours, mut second) = (lent.clone(), lent.clone());
-    let numbers: [u64; raw::ANALYSE_LENGTH] = match expected::analyse(chart, allowance, &mut second) {
+    let answer = list(random, raw::ANALYSE_LENGTH);
+    let expected = has_room(&answer, raw::ANALYSE_LENGTH).then(|| expected::analyse(chart, allowance, &mut second));
+    let numbers: Option<[u64; raw::ANALYSE_LENGTH]> = expected.map(|expected| match expected {
         Ok(settled) => [0, 0, settled.passes as u64, settled.blocks as u64],
         Err(Unsettled::Spent { allowance, blocks }) => [12, 0, allowance as u64, blocks as u64],
         Err(Unsettled::Refused(refusal)) => refused(refusal),
-    };
+    });
     let lent = ours.to_archive();
-    tells(random, tally, "veilbuzz_analyse", numbers, |answer, length| unsafe {
+    tells(tally, "veilbuzz_analyse", answer, numbers, |answer, length| unsafe {
         raw::veilbuzz_analyse(
             chart.as_ptr(),
             chart.len(),
@@ -119,10 +139,13 @@ pub fn analyse(random: &mut Random, tally: &mut Tally, chart: &[u8], allowance: 
 }
 
 pub fn check(random: &mut Random, tally: &mut Tally, chart: &[u8], table: &LentTable) -> Held {
-    let expected = expected::check(chart, table);
-    let numbers = expected.map_or_else(refused::<{ raw::CHECK_LENGTH }>, |yes| [0, 0, yes.into()]);
+    let answer = list(random, raw::CHECK_LENGTH);
+    let numbers = has_room(&answer, raw::CHECK_LENGTH).then(|| {
+        let expected = expected::check(chart, table);
+        expected.map_or_else(refused::<{ raw::CHECK_LENGTH }>, |yes| [0, 0, yes.into()])
+    });
     let table = table.to_archive();
-    tells(random, tally, "veilbuzz_check", numbers, |answer, length| unsafe {
+    tells(tally, "veilbuzz_check", answer, numbers, |answer, length| unsafe {
         raw::veilbuzz_check(
             chart.as_ptr(),
             chart.len(),
@@ -146,12 +169,15 @@ pub fn total(
     costs: Costs,
     bounds: &LentBounds,
 ) -> Held {
-    let expected = expected::total(chart, table, costs, bounds.bounds());
-    let numbers = expected.map_or_else(refused::<{ raw::TOTAL_LENGTH }>, |totals| {
-        [0, 0, totals.low, totals.high]
+    let answer = list(random, raw::TOTAL_LENGTH);
+    let numbers = has_room(&answer, raw::TOTAL_LENGTH).then(|| {
+        let expected = expected::total(chart, table, costs, bounds.bounds());
+        expected.map_or_else(refused::<{ raw::TOTAL_LENGTH }>, |totals| {
+            [0, 0, totals.low, totals.high]
+        })
     });
     let (table, bounds) = (table.to_archive(), bounds.bounds());
-    tells(random, tally, "veilbuzz_total", numbers, |answer, length| unsafe {
+    tells(tally, "veilbuzz_total", answer, numbers, |answer, length| unsafe {
         raw::veilbuzz_total(
             chart.as_ptr(),
             chart.len(),

@@ -2,7 +2,7 @@
 
 use crate::draw;
 use crate::same::Held;
-use crate::settings::Settings;
+use crate::settings::{Settings, LEAST};
 use crate::shown::shown;
 use crate::tally::Tally;
 use crate::trial::trial;
@@ -29,6 +29,7 @@ fn one(seed: u64, tally: &mut Tally) -> Held {
 /// Compares charts from the first seed on. What occurred, or words for the first difference that was found.
 pub fn run(settings: Settings) -> Held<Tally> {
     let last = Instant::now() + Duration::from_secs(settings.seconds);
+    let charts = settings.charts.unwrap_or(LEAST);
     let next = AtomicU64::new(0);
     let stopped = AtomicBool::new(false);
     let difference = Mutex::new(None);
@@ -38,7 +39,7 @@ pub fn run(settings: Settings) -> Held<Tally> {
         let mut tally = Tally::default();
         while !stopped.load(Ordering::Relaxed) && Instant::now() < last {
             let index = next.fetch_add(1, Ordering::Relaxed);
-            if settings.charts > 0 && index >= settings.charts {
+            if charts > 0 && index >= charts {
                 break;
             }
             let seed = settings.seed.wrapping_add(index);

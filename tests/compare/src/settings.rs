@@ -9,8 +9,8 @@ pub const LEAST: u64 = 200_000;
 pub struct Settings {
     /// VEILBUZZ_SEED: the first chart's seed. The next chart has the next number.
     pub seed: u64,
-    /// VEILBUZZ_CHARTS: how many charts; 0 for as many as there is time for.
-    pub charts: u64,
+    /// VEILBUZZ_CHARTS, if it is set: how many charts; 0 for as many as there is time for.
+    pub charts: Option<u64>,
     /// VEILBUZZ_SECONDS: when to stop.
     pub seconds: u64,
 }
@@ -18,18 +18,15 @@ pub struct Settings {
 impl Settings {
     pub fn from_environment() -> Settings {
         Settings {
-            seed: number("VEILBUZZ_SEED", 20_260_101),
-            charts: number("VEILBUZZ_CHARTS", LEAST),
-            seconds: number("VEILBUZZ_SECONDS", 240),
+            seed: number("VEILBUZZ_SEED").unwrap_or(20_260_101),
+            charts: number("VEILBUZZ_CHARTS"),
+            seconds: number("VEILBUZZ_SECONDS").unwrap_or(240),
         }
     }
 }
 
-fn number<T: FromStr>(name: &str, default: T) -> T {
-    match env::var(name) {
-        Ok(text) => text
-            .parse()
-            .unwrap_or_else(|_| panic!("{name} is a number, not '{text}'")),
-        Err(_) => default,
-    }
+fn number<T: FromStr>(name: &str) -> Option<T> {
+    let text = env::var(name).ok()?;
+    let number = text.parse();
+    Some(number.unwrap_or_else(|_| panic!("{name} is a number, not '{text}'")))
 }

@@ -2,6 +2,7 @@
 
 use crate::ask;
 use crate::bounds::Question;
+use crate::crowds;
 use crate::draw;
 use crate::features;
 use crate::lent::{used, Lent};
@@ -70,6 +71,7 @@ fn accepted(random: &mut Random, tally: &mut Tally, bytes: &[u8], header: Header
         }
     }
     let tightest = Table::written(&ours, header.nodes, header.blocks);
+    crowds::count(tally, bytes, &chart, &tightest);
     let tables = check_tables(random, tally, bytes, &chart, tightest)?;
     for _ in 0..2 {
         question(random, tally, bytes, &chart, &tables)?;

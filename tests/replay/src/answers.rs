@@ -22,13 +22,13 @@ impl<const NUMBERS: usize> Answer<NUMBERS> {
         self.0[0]
     }
 
-    /// The list that an answer is told in. One without room for all of it stays as it was.
+    /// The list that an answer is told in.
     pub fn told(&self, random: &mut Random) -> Buffer {
         told(random, Some(&self.0), NUMBERS)
     }
 }
 
-/// A list for so many numbers, which takes them if it has room for all.
+/// A list for so many numbers, which takes them if it has room for all. Without room nothing is told at all, in no list of the call.
 pub fn told(random: &mut Random, numbers: Option<&[u64]>, needed: usize) -> Buffer {
     let fill = random.below(256) as u8;
     let mut places = filled::<u64>(list(random, needed), fill);

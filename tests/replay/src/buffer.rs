@@ -11,19 +11,21 @@ pub enum Access {
     Reads = 0,
     /// It writes the used part. What stood there and in the tail may not matter.
     Writes = 1,
+    /// It may not even look at it.
+    Ignores = 2,
 }
 
 /// A buffer, by its known beginning and its tail, which is filled before the call and has to be so after it.
 #[derive(Clone, Debug)]
 pub struct Buffer {
-    access: Access,
-    size: usize,
+    pub(crate) access: Access,
+    pub(crate) size: usize,
     pub length: usize,
-    /// How many elements document 01 asks for.
+    /// How many elements are asked for.
     pub needed: usize,
-    used: usize,
-    fill: u8,
-    known: Vec<u8>,
+    pub(crate) used: usize,
+    pub(crate) fill: u8,
+    pub(crate) known: Vec<u8>,
 }
 
 impl Buffer {
@@ -59,6 +61,22 @@ impl Buffer {
     /// A buffer that was filled so before the call, and has these elements after it; the first `used` were written.
     pub fn written<T: Element>(elements: &[T], needed: usize, used: usize, fill: u8) -> Buffer {
         Buffer::of(Access::Writes, elements, needed, used, fill)
+    }
+
+    /// The buffer as it is lent, where a function is to do nothing with it.
+    pub fn ignored(self) -> Buffer {
+        let written = self.access == Access::Writes;
+        let (used, known) = if written { (0, vec![]) } else { (self.used, self.known) };
+        Buffer {
+            access: Access::Ignores,
+            used,
+            known,
+            ..self
+        }
+    }
+
+    pub fn is_short(&self) -> bool {
+        self.length < self.needed
     }
 
     /// The elements as they are lent to be read, or are to be left.

@@ -24,7 +24,28 @@ pub struct Case {
     pub buffers: Vec<Buffer>,
 }
 
+/// What is returned where a list has no room for what is told in it.
+const NO_ROOM: u64 = 11;
+
 impl Case {
+    /// The same call as it has to go. Where a list has no room for what is told in it, nothing is done, and nothing lent is looked at.
+    pub fn with_regard_to_room(self) -> Case {
+        if !self.lists().iter().any(Buffer::is_short) {
+            return self;
+        }
+        Case {
+            returned: NO_ROOM,
+            buffers: self.buffers.into_iter().map(Buffer::ignored).collect(),
+            ..self
+        }
+    }
+
+    /// The lists that numbers are told in: the last buffer, and of veilbuzz_read the one before it too.
+    pub fn lists(&self) -> &[Buffer] {
+        let lists = if self.function == Function::Read { 2 } else { 1 };
+        &self.buffers[self.buffers.len() - lists..]
+    }
+
     /// A case as bytes: the function, the numbers, what is returned, and each buffer.
     pub fn write(&self, out: &mut impl Write) -> Result<()> {
         out.write_all(&[self.function as u8])?;

@@ -1,17 +1,19 @@
-//! The charts of the cases: many small ones and few large ones, whole, damaged, and bytes that are no chart at all.
+//! The charts of the cases: many small ones and few large ones, some at an edge of groups and limits; whole, damaged, and bytes that are
+//! no chart at all.
 
 use charts::random::Random;
-use charts::random_charts::{damaged, whole};
+use charts::random_charts::{damaged, of_nodes, whole};
+use charts::random_edges::at_an_edge;
 use charts::Chart;
-use second::limits::NODES;
 
 /// A chart with no fault but perhaps a block too many.
 pub fn chart(random: &mut Random) -> Chart {
-    let most = if random.once_in(8) { NODES } else { 10 };
-    loop {
-        let chart = whole(random);
-        if chart.records.len() <= most {
-            return chart;
+    match random.below(40) {
+        0 => at_an_edge(random),
+        1..=5 => whole(random),
+        _ => {
+            let nodes = random.within(1, 10);
+            of_nodes(random, nodes)
         }
     }
 }

@@ -12,6 +12,7 @@ mod lengths;
 mod reading;
 mod tables;
 mod totalling;
+pub mod wrong;
 
 pub use buffer::Buffer;
 pub use case::{Case, Function};
@@ -24,10 +25,11 @@ pub const SEED: u64 = 20_250_701;
 /// The case of a number: the functions take turns, and all else is the seed's.
 pub fn case(seed: u64, number: u64) -> Case {
     let mut random = Random::new(seed.wrapping_add(number));
-    match number % 4 {
+    let roomy = match number % 4 {
         0 => reading::case(&mut random),
         1 => analysing::case(&mut random),
         2 => checking::case(&mut random),
         _ => totalling::case(&mut random),
-    }
+    };
+    roomy.with_regard_to_room()
 }

@@ -21,7 +21,7 @@ fn tally<K: Ord>(keys: impl Iterator<Item = K>) -> BTreeMap<K, usize> {
 
 /// Which numbers each function returns: 0 and its refusals.
 const RETURNED: [(Function, &[u64]); 4] = [
-    (Function::Read, &[0, 1, 2, 3, 4, 5, 6, 7, 8, 9, 10]),
+    (Function::Read, &[0, 1, 2, 3, 4, 5, 6, 7, 8, 9, 10, 11]),
     (Function::Analyse, &[0, 1, 2, 3, 4, 5, 6, 7, 8, 9, 10, 11, 12]),
     (Function::Check, &[0, 1, 2, 3, 4, 5, 6, 7, 8, 9, 10, 11]),
     (
@@ -44,17 +44,18 @@ fn each_function_gives_each_of_its_refusals_and_no_other() {
 }
 
 /// The buffers that refusal 11 speaks of, by their places among the parameters.
-const REFUSED_IF_SHORT: [(Function, &[usize]); 3] = [
-    (Function::Analyse, &[1, 2, 3, 4, 5]),
-    (Function::Check, &[1, 2, 3]),
-    (Function::Total, &[1, 2, 3]),
+const REFUSED_IF_SHORT: [(Function, &[usize]); 4] = [
+    (Function::Read, &[1, 2]),
+    (Function::Analyse, &[1, 2, 3, 4, 5, 6]),
+    (Function::Check, &[1, 2, 3, 4]),
+    (Function::Total, &[1, 2, 3, 6]),
 ];
 
 #[test]
 fn each_buffer_alone_is_too_short() {
     let short = |case: &Case| -> Vec<usize> {
-        (0..case.buffers.len() - 1)
-            .filter(|&place| case.buffers[place].length < case.buffers[place].needed)
+        (0..case.buffers.len())
+            .filter(|&place| case.buffers[place].is_short())
             .collect()
     };
     let met = tally(
@@ -99,10 +100,40 @@ fn each_buffer_of_an_accepted_call_is_longer_just_right_and_empty() {
                 );
             }
         }
-        // Block numbers and ages of a chart of bare steps.
+    }
+    // Block numbers and ages of a chart of bare steps.
+    for function in [Function::Analyse, Function::Check, Function::Total] {
         let times = met.get(&(function, 1, "empty")).copied().unwrap_or(0);
         assert!(times >= 5, "buffer 1 of {function:?} is empty only {times} times");
     }
+}
+
+#[test]
+fn each_buffer_is_empty_and_then_lent_as_no_memory_at_all() {
+    let met = tally(cases().flat_map(|case| {
+        let empty = |&place: &usize| case.buffers[place].length == 0;
+        let places: Vec<usize> = (0..case.buffers.len()).filter(empty).collect();
+        places.into_iter().map(move |place| (case.function, place))
+    }));
+    for (function, buffers) in [
+        (Function::Read, 3),
+        (Function::Analyse, 7),
+        (Function::Check, 5),
+        (Function::Total, 7),
+    ] {
+        for place in 0..buffers {
+            let times = met.get(&(function, place)).copied().unwrap_or(0);
+            assert!(times >= 1, "buffer {place} of {function:?} is never empty");
+        }
+    }
+}
+
+#[test]
+fn a_call_without_room_for_its_answer_is_11_whatever_else_is_lent() {
+    let short = |case: &Case| case.lists().iter().any(replay::Buffer::is_short);
+    let met = tally(cases().filter(short).map(|case| (case.function, case.returned)));
+    assert_eq!(met.keys().filter(|key| key.1 != 11).count(), 0);
+    assert!(met.len() == 4 && met.values().all(|&times| times >= 500), "{met:?}");
 }
 
 #[test]

@@ -3,4 +3,5 @@
 pub mod each;
 pub mod folder;
 pub mod hold;
+pub mod made_up;
 pub mod program;

@@ -3,9 +3,8 @@
 use std::env;
 use std::ffi::OsString;
 use std::io::{Read, Write};
-use std::os::unix::process::ExitStatusExt;
 use std::path::{Path, PathBuf};
-use std::process::{Child, Command, ExitStatus, Stdio};
+use std::process::{Child, Command, Stdio};
 use std::thread;
 use std::time::{Duration, Instant};
 
@@ -61,13 +60,22 @@ pub fn finish(mut child: Child) -> String {
     drop(child.stdin.take());
     let output = child.wait_with_output().expect("the program ends");
     let said = String::from_utf8_lossy(&output.stderr);
+    let text = String::from_utf8(output.stdout).expect("the program writes ASCII");
     assert!(
-        output.status.success() && said.is_empty(),
+        output.status.code() == Some(status_of(&text)) && said.is_empty(),
         "the program ended with {}: {said}",
         output.status
     );
-    String::from_utf8(output.stdout).expect("the program writes ASCII")
+    text
 }
+
+/// The status that the program ends with once it has written this: 0 after a report, 1 after a refusal.
+pub fn status_of(text: &str) -> i32 {
+    i32::from(text.starts_with("refused "))
+}
+
+/// The status where not all could be written.
+pub const CUT: i32 = 2;
 
 /// What the program writes for an input.
 pub fn run(input: &[u8]) -> String {
@@ -79,14 +87,6 @@ pub fn answer(command: Command, input: &[u8]) -> String {
     let mut child = start(command);
     hand(&mut child, input);
     finish(child)
-}
-
-/// The signal that ends a program whose output nobody reads.
-const BROKEN_PIPE: i32 = 13;
-
-/// Whether a status is none of a crash, nor the one by which valgrind tells that it has found something.
-fn peaceful(status: ExitStatus) -> bool {
-    status.success() || status.signal() == Some(BROKEN_PIPE)
 }
 
 /// Words of what valgrind finds. It also tells of a signal that ends the program, which is no fault here.
@@ -101,20 +101,21 @@ fn said(child: &mut Child) -> String {
     said
 }
 
-/// Whether a started program ends in peace within ten seconds; one that does not end is ended.
-pub fn ends(child: &mut Child) -> bool {
+/// The status that a started program ends with in peace within ten seconds; one that does not end is ended.
+pub fn ends(child: &mut Child) -> Option<i32> {
     let last = Instant::now() + Duration::from_secs(10);
     while Instant::now() < last {
         if let Some(status) = child.try_wait().expect("the program can be asked") {
             let said = said(child);
             let found = FINDINGS.iter().any(|word| said.contains(word));
-            assert!(peaceful(status) && !found, "the program ended with {status}: {said}");
-            return true;
+            let peaceful = matches!(status.code(), Some(0..=CUT));
+            assert!(peaceful && !found, "the program ended with {status}: {said}");
+            return status.code();
         }
         thread::sleep(Duration::from_millis(5));
     }
     child.kill().expect("the program can be ended");
-    false
+    None
 }
 
 /// Whether a started program has not ended yet.

@@ -61,3 +61,56 @@ fn each_crate_has_a_line_in_the_readme_and_in_the_trace() {
         );
     }
 }
+
+/// The fields of the records in the files of definitions of a crate, as `RECORD FILE FIELD`.
+fn claims_of(name: &str) -> Vec<String> {
+    let Ok(folder) = fs::read_dir(file("crates").join(name).join("specs")) else {
+        return vec![];
+    };
+    let mut claims = vec![];
+    for entry in folder {
+        let path = entry.expect("the folder can be read").path();
+        let of = path
+            .file_name()
+            .and_then(|name| name.to_str())
+            .expect("a name in ASCII")
+            .to_string();
+        let source = fs::read_to_string(&path).expect("a file of definitions is text");
+        // a record, and how far its line is set in: its fields are two places further in
+        let (mut record, mut margin) = ("", 0);
+        for line in source.lines() {
+            let words = line.trim_start();
+            let set_in = line.len() - words.len();
+            if let Some(head) = words.strip_prefix("pub record ") {
+                record = head.split(' ').next().expect("a record has a name");
+                margin = set_in;
+            } else if let Some((field, _)) = words.strip_prefix("pub ").and_then(|rest| rest.split_once(" :")) {
+                if set_in == margin + 2 {
+                    claims.push(format!("{record} {name}/specs/{of} {field}"));
+                }
+            } else if !words.is_empty() && set_in <= margin {
+                margin = usize::MAX - 2;
+            }
+        }
+    }
+    claims
+}
+
+#[test]
+fn the_page_of_claims_has_each_field_of_each_record_and_no_other() {
+    let page = text("docs/CLAIMS.md");
+    let told: BTreeSet<String> = page
+        .lines()
+        .filter(|line| line.starts_with("| `"))
+        .flat_map(|line| {
+            let names: Vec<&str> = line.split('`').skip(1).step_by(2).collect();
+            names[2..]
+                .iter()
+                .map(|field| format!("{} {} {field}", names[0], names[1]))
+                .collect::<Vec<_>>()
+        })
+        .collect();
+    let there: BTreeSet<String> = crates().iter().flat_map(|name| claims_of(name)).collect();
+    assert!(there.len() >= 200, "only {} claims", there.len());
+    assert_eq!(told, there);
+}

@@ -47,7 +47,10 @@ fn an_input_without_an_end_gets_the_answer_for_its_first_bytes() {
         hand(&mut child, &begins);
         let mut input = child.stdin.take().expect("standard input is open");
         let endless = thread::spawn(move || while input.write_all(&[0; 4_096]).is_ok() {});
-        assert!(ends(&mut child), "the program does not end on zeros without an end");
+        assert!(
+            ends(&mut child).is_some(),
+            "the program does not end on zeros without an end"
+        );
         let mut taken = begins;
         taken.resize(INPUT, 0);
         same(&finish(child), &taken);
@@ -60,7 +63,7 @@ fn the_endless_sources_of_the_machine_get_an_answer() {
     let mut zeros = command();
     zeros.stdin(File::open("/dev/zero").expect("/dev/zero is there"));
     let mut child = start(zeros);
-    assert!(ends(&mut child), "the program does not end on /dev/zero");
+    assert!(ends(&mut child).is_some(), "the program does not end on /dev/zero");
     same(&finish(child), &[0; INPUT]);
 
     let mut yes = Command::new("yes")
@@ -70,7 +73,7 @@ fn the_endless_sources_of_the_machine_get_an_answer() {
     let mut ayes = command();
     ayes.stdin(yes.stdout.take().expect("its output is piped"));
     let mut child = start(ayes);
-    assert!(ends(&mut child), "the program does not end on what yes says");
+    assert!(ends(&mut child).is_some(), "the program does not end on what yes says");
     same(&finish(child), &b"y\n".repeat(INPUT)[..INPUT]);
     yes.wait().expect("yes ends when nobody reads it");
 }
@@ -96,7 +99,7 @@ fn a_program_with_no_output_or_no_stream_at_all_ends() {
         let mut child = start(command_after(closed));
         hand(&mut child, &Chart::sample().bytes());
         drop(child.stdin.take());
-        assert!(ends(&mut child), "the program does not end after '{closed}'");
+        assert!(ends(&mut child).is_some(), "the program does not end after '{closed}'");
     }
 }
 
@@ -110,6 +113,9 @@ fn a_reader_that_takes_a_few_bytes_and_goes_gets_a_beginning_of_the_report() {
     let mut output = child.stdout.take().expect("its output is piped");
     output.read_exact(&mut few).expect("the program writes more than that");
     drop(output);
-    assert!(ends(&mut child), "the program does not end when its reader goes");
+    assert!(
+        ends(&mut child).is_some(),
+        "the program does not end when its reader goes"
+    );
     assert!(report(&chart).as_bytes().starts_with(&few));
 }

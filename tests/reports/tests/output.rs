@@ -1,8 +1,9 @@
-//! How the program leaves its output: to nobody, to a full pipe, to a full disk. It ends, and what it left is a beginning of its report.
+//! How the program leaves its output: to nobody, to a full pipe, to a full disk. It ends, what it left is a beginning of its report, and
+//! its status says that this is not all.
 
 use charts::Chart;
 use reports::hold::same;
-use reports::program::{command, command_after, ends, finish, hand, runs, start};
+use reports::program::{command, command_after, ends, finish, hand, runs, start, CUT};
 use second::limits::NODES;
 use second::report::report;
 use std::fs::{self, File};
@@ -31,7 +32,8 @@ fn hand_chart(child: &mut Child) {
 }
 
 fn must_end(child: &mut Child, since: &str) {
-    assert!(ends(child), "the program still runs ten seconds after {since}");
+    let status = ends(child).unwrap_or_else(|| panic!("the program still runs ten seconds after {since}"));
+    assert_eq!(status, CUT, "the status after {since}");
 }
 
 /// Keeps a pipe full of dots from a thread of its own, until it is told to stop or nobody reads.

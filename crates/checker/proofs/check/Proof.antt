@@ -2,7 +2,8 @@ use borrow.Author.Needs.{needs}
 use mathlib.Core.Path.{_∙_}
 use denote.Ref.{now}
 use Rattle.chart.proofs.Answers.{reader-accepts, reader-refuses}
-use Rattle.checker.specs.Checker.{checked}
+use Rattle.refusals.proofs.Saying.{says-too}
+use Rattle.checker.specs.Checker.{checked, checkedSays}
 use Rattle.checker.proofs.Answers.{checked-drawn}
 use Rattle.checker.proofs.check.Statement.{statement}
 use Rattle.checker.proofs.check.Tie as tie
@@ -34,11 +35,11 @@ check-drawn-requires c κs = c .before .before .before .before .before .before .
 returns : tie.Need-returns
 returns c =
     let a = c .before .before .before .before .before .before .before .before .before .before .before .before .before .before .args in
-    c .check-drawn .ensures ∙ checked-drawn (record { must = now (a .must); may = now (a .may); marks = now (a .marks) }) (c .before .before .before .before .before .before .before .draw .ensures .1) (reader-accepts _ (c .before .before .before .before .before .before .before .draw .result) (c .before .before .before .before .before .before .before .draw .ensures .0) _ _ (c .before .before .before .enum-told .given .1) .read)
+    says-too checkedSays (c .check-drawn .ensures ∙ checked-drawn (record { must = now (a .must); may = now (a .may); marks = now (a .marks) }) (c .before .before .before .before .before .before .before .draw .ensures .1) (reader-accepts _ (c .before .before .before .before .before .before .before .draw .result) (c .before .before .before .before .before .before .before .draw .ensures .0) _ _ (c .before .before .before .enum-told .given .1) .read))
 
 returns-2 : tie.Need-returns-2
 unfolding checked
-returns-2 c = rw (reader-refuses _ (c .before .before .before .before .before .draw .result) (c .before .before .before .before .before .draw .ensures .0) _ (c .before .verdict .given .1))
+returns-2 c = says-too checkedSays (rw (reader-refuses _ (c .before .before .before .before .before .draw .result) (c .before .before .before .before .before .draw .ensures .0) _ (c .before .verdict .given .1)))
 
 pub check-spec : {M : Type 1} → statement M
 check-spec =

@@ -18,13 +18,13 @@ returns : tie.Need-returns
 returns c =
     let bytes = now (c .before .before .before .before .before .before .args .chart) in
     let read = c .before .before .read in
-    (read .ensures, refused-draws bytes _ _ _ (reader-refuses bytes (read .result) (read .ensures) _ (c .enum-told .given .1)))
+    (read .ensures .0, refused-draws bytes _ _ _ (reader-refuses bytes (read .result) (read .ensures .0) _ (c .enum-told .given .1)))
 
 draw-chart-requires : tie.Need-draw-chart-requires
 draw-chart-requires c κs =
     let s = c .before .before .before .before .before .before .before .before .before .before .before .before in
     let read = c .before .before .before .before .before .before .before .before .read in
-    (reader-accepts (now (s .args .chart)) (read .result) (read .ensures) _ _ (c .before .before .before .before .before .before .verdict .given .1), s .pre)
+    (reader-accepts (now (s .args .chart)) (read .result) (read .ensures .0) _ _ (c .before .before .before .before .before .before .verdict .given .1), s .pre)
 
 same-length : tie.Need-same-length
 same-length c = search needs

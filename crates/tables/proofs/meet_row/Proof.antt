@@ -30,7 +30,7 @@ same-length-3 c = search needs
 
 returns : tie.Need-returns
 unfolding takenInto
-returns c = rw (eq-eqb _ _ (c .before .before .before .before .before .before .before .before .if1 .taken), c .before .before .before .before .before .before .put-ages .ensures, c .before .before .put-ages2 .ensures)
+returns c = rw (eq-eqb _ 0 (c .before .before .before .before .before .before .before .before .if1 .taken), c .before .before .before .before .before .before .put-ages .ensures, c .before .before .put-ages2 .ensures)
 
 put-larger-requires : tie.Need-put-larger-requires
 put-larger-requires c κs = search needs
@@ -47,7 +47,7 @@ same-length-5 c = search needs
 returns-2 : tie.Need-returns-2
 unfolding joinedInto
 returns-2 c =
-    rw (ne-eqb _ _ (c .before .before .before .before .before .before .before .before .if1 .left), c .before .before .before .before .before .before .put-larger .ensures .row, c .before .before .put-smaller .ensures .row, c .before .before .put-smaller .ensures .moved, c .before .before .before .before .before .before .put-larger .ensures .moved)
+    rw (ne-eqb _ 0 (c .before .before .before .before .before .before .before .before .if1 .left), c .before .before .before .before .before .before .put-larger .ensures .row, c .before .before .put-smaller .ensures .row, c .before .before .put-smaller .ensures .moved, c .before .before .before .before .before .before .put-larger .ensures .moved)
 
 pub meet-row-spec : {M : Type 1} → statement M
 meet-row-spec =

@@ -4,7 +4,8 @@ use denote.Ref.{now}
 use Rattle.chart.proofs.Answers.{reader-accepts, reader-refuses}
 use Rattle.costs.specs.Costs.{Prices}
 use Rattle.tables.specs.Lent.{Lent}
-use Rattle.totals.specs.Totals.{totals}
+use Rattle.refusals.proofs.Saying.{says-too}
+use Rattle.totals.specs.Totals.{totals, totalsSay}
 use Rattle.totals.proofs.Totalled.{short-totals, fails-totals, passes-totals, passing-roomy}
 use Rattle.totals.proofs.total.Statement.{statement}
 use Rattle.totals.proofs.total.Tie as tie
@@ -31,7 +32,7 @@ enum-known-verdict c = search needs
 returns : tie.Need-returns
 unfolding totals
 returns c =
-    rw (reader-refuses _ (c .before .before .before .before .before .draw .result) (c .before .before .before .before .before .draw .ensures .0) _ (c .before .verdict .given .1))
+    says-too totalsSay (rw (reader-refuses _ (c .before .before .before .before .before .draw .result) (c .before .before .before .before .before .draw .ensures .0) _ (c .before .verdict .given .1)))
 
 enum-told : tie.Need-enum-told
 enum-told c = search needs
@@ -71,18 +72,19 @@ total-drawn-requires c κs =
 returns-2 : tie.Need-returns-2
 returns-2 c =
     let s = c .before .before .before .before .before .before .before .before .before .before .before .before .before .before .before .before .before .before .before in
-    short-totals (c .before .before .before .before .before .before .before .before .before .before .draw .ensures .1) (reader-accepts _ (c .before .before .before .before .before .before .before .before .before .before .draw .result) (c .before .before .before .before .before .before .before .before .before .before .draw .ensures .0) _ _ (c .before .before .before .before .before .before .enum-told .given .1) .read) (lent s) (prices s) _ (sym (c .before .answer .given .1) ∙ c .before .before .before .check-drawn .ensures)
+    says-too totalsSay (short-totals (c .before .before .before .before .before .before .before .before .before .before .draw .ensures .1) (reader-accepts _ (c .before .before .before .before .before .before .before .before .before .before .draw .result) (c .before .before .before .before .before .before .before .before .before .before .draw .ensures .0) _ _ (c .before .before .before .before .before .before .enum-told .given .1) .read) (lent s) (prices s) _ (sym (c .before .answer .given .1) ∙ c .before .before .before .check-drawn .ensures))
 
 returns-3 : tie.Need-returns-3
 returns-3 c =
     let s = c .before .before .before .before .before .before .before .before .before .before .before .before .before .before .before .before .before .before in
-    fails-totals (c .before .before .before .before .before .before .before .before .before .draw .ensures .1) (reader-accepts _ (c .before .before .before .before .before .before .before .before .before .draw .result) (c .before .before .before .before .before .before .before .before .before .draw .ensures .0) _ _ (c .before .before .before .before .before .enum-told .given .1) .read) (lent s) (prices s) (sym (c .enum-told2 .given .1) ∙ c .before .before .check-drawn .ensures)
+    says-too totalsSay (fails-totals (c .before .before .before .before .before .before .before .before .before .draw .ensures .1) (reader-accepts _ (c .before .before .before .before .before .before .before .before .before .draw .result) (c .before .before .before .before .before .before .before .before .before .draw .ensures .0) _ _ (c .before .before .before .before .before .enum-told .given .1) .read) (lent s) (prices s) (sym (c .enum-told2 .given .1) ∙ c .before .before .check-drawn .ensures))
 
 returns-4 : tie.Need-returns-4
 returns-4 c =
     let s = c .before .before .before .before .before .before .before .before .before .before .before .before .before .before .before .before .before .before .before .before .before in
-    c .total-drawn .ensures
-    ∙ passes-totals (c .before .before .before .before .before .before .before .before .before .before .before .before .draw .ensures .1) (reader-accepts _ (c .before .before .before .before .before .before .before .before .before .before .before .before .draw .result) (c .before .before .before .before .before .before .before .before .before .before .before .before .draw .ensures .0) _ _ (c .before .before .before .before .before .before .before .before .enum-told .given .1) .read) (lent s) (prices s) (sym (c .before .before .before .enum-told3 .given .1) ∙ c .before .before .before .before .before .check-drawn .ensures)
+    says-too totalsSay
+    (c .total-drawn .ensures
+    ∙ passes-totals (c .before .before .before .before .before .before .before .before .before .before .before .before .draw .ensures .1) (reader-accepts _ (c .before .before .before .before .before .before .before .before .before .before .before .before .draw .result) (c .before .before .before .before .before .before .before .before .before .before .before .before .draw .ensures .0) _ _ (c .before .before .before .before .before .before .before .before .enum-told .given .1) .read) (lent s) (prices s) (sym (c .before .before .before .enum-told3 .given .1) ∙ c .before .before .before .before .before .check-drawn .ensures))
 
 pub total-spec : {M : Type 1} → statement M
 total-spec =

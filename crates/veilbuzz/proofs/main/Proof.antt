@@ -38,6 +38,12 @@ slice-aggregate-write-all c = sym (length-take-le _ _ (within (c .before .before
 write-all-requires : tie.Need-write-all-requires
 write-all-requires c κs = search needs
 
+ending-requires : tie.Need-ending-requires
+ending-requires c κs = search needs
+
+print-decimal-requires : tie.Need-print-decimal-requires
+print-decimal-requires c κs = search needs
+
 returns : tie.Need-returns
 returns c = search needs
 
@@ -53,4 +59,6 @@ main-spec =
     array-share-prefix-bytes
     slice-aggregate-write-all
     write-all-requires
+    ending-requires
+    print-decimal-requires
     returns)

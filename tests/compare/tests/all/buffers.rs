@@ -89,11 +89,14 @@ fn every_choice_of_lengths_for_the_checker_and_the_totals() {
             for [must, may, marks, floors, ceilings] in choices([must, may, marks, nodes, nodes]) {
                 let table = LentTable::exactly(random, &of_lengths(&analysis, [must, may, marks]));
                 _ = ask::check(tally, chart, &table)?;
+                raw::check(random, tally, chart, &table)?;
                 let bounds = LentBounds {
                     floors: Guarded::holding(random, &vec![0; floors], 0, short),
                     ceilings: Guarded::holding(random, &vec![2; ceilings], 0, short),
                 };
-                _ = ask::total(tally, chart, &table, Costs { hit: 1, miss: 9 }, &bounds)?;
+                let costs = Costs { hit: 1, miss: 9 };
+                _ = ask::total(tally, chart, &table, costs, &bounds)?;
+                raw::total(random, tally, chart, &table, costs, &bounds)?;
             }
             Ok(())
         });

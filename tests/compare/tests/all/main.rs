@@ -1,10 +1,11 @@
 //! Charts that are listed (every value of every small field, both sides of every boundary, every count), and charts that
-//! are drawn. All in one program, since that is linked but once.
+//! are drawn, and that no difference passes. All in one program, since that is linked but once.
 
 mod allowances;
 mod buffers;
 mod counts;
 mod faults;
+mod guarded;
 mod header;
 mod huge;
 mod lengths;

@@ -1,15 +1,19 @@
 //! Random charts, whole and damaged, through everything.
 
+use charts::random_edges::EDGES;
 use compare::ask::{ANALYSE, CHECK, READ, TOTAL};
+use compare::crowds::{END, FULL, FULLEST, LAST_MAY, LAST_MUST, ONE_BIT};
 use compare::draw::{ALLOWANCE, ALLOWANCES, LENGTHS};
-use compare::features::{CLASS, GEOMETRIES, GEOMETRY, LIKE, PASSES};
-use compare::raw::{ANSWER_LIST, HEADER_LIST};
+use compare::features::{BLOCKS, CLASS, GEOMETRIES, GEOMETRY, LIKE, NODES, PASSES, REACHED};
+use compare::raw::{ANSWER_LIST, HEADER_LIST, READ_ROOM};
 use compare::run::run;
 use compare::settings::{Settings, LEAST};
 use compare::tables::{ALMOST, NOISE, PASSING};
 use compare::tally::Tally;
 use compare::trial::FAULTS;
 use compare::walks::{MET, SURE, WALK};
+use second::limits;
+use std::env;
 use std::io::{stdout, Write};
 
 #[test]
@@ -19,15 +23,20 @@ fn the_archive_and_the_second_program_agree_on_random_charts() {
     let Settings { seed, charts, seconds } = settings;
     // not by println, which the harness keeps back where a test passes
     writeln!(stdout(), "seed {seed}: {}", tally.words()).expect("standard output is open");
+    let told = env::var_os("VEILBUZZ_CHARTS").is_some();
+    assert_eq!(charts.is_some(), told, "only VEILBUZZ_CHARTS says how many charts");
+    let least = charts.unwrap_or(LEAST);
     assert!(
-        tally.charts() >= charts,
-        "only {} of {charts} charts were compared in {seconds} seconds",
+        tally.charts() >= least,
+        "only {} of {least} charts were compared in {seconds} seconds",
         tally.charts()
     );
     // fewer may do without some of it, as the one chart of a failure that is had again
-    if tally.charts() >= LEAST {
+    if charts.is_none() || tally.charts() >= LEAST {
         expect_answers(&tally);
         expect_charts(&tally);
+        expect_crowds(&tally);
+        expect_edges(&tally);
         expect_lent(&tally);
     }
 }
@@ -41,6 +50,7 @@ fn expect_answers(tally: &Tally) {
     tally.expect_each(TOTAL, 13..=17, 300);
     tally.expect_each(ANSWER_LIST, 0..=10, 1_000);
     tally.expect_each(HEADER_LIST, 0..=10, 1_000);
+    tally.expect_each(READ_ROOM, 0..=3, 1_000);
 }
 
 fn expect_charts(tally: &Tally) {
@@ -53,6 +63,33 @@ fn expect_charts(tally: &Tally) {
     tally.expect_each(MET, 1..=4, 50_000);
     tally.expect_each(WALK, 0..=1, 50_000);
     tally.expect(SURE, 10_000);
+}
+
+/// Most charts reach all their nodes; sets are filled and more than filled; one bit tells blocks apart.
+fn expect_crowds(tally: &Tally) {
+    tally.expect_each(REACHED, 0..=9, 1_000);
+    tally.expect_each(REACHED, 10..=10, 80_000);
+    tally.expect_each(FULLEST, 0..=5, 3_000);
+    tally.expect_each(FULL, 0..=3, 5_000);
+    tally.expect_each(LAST_MUST, 1..=limits::WAYS, 300);
+    tally.expect_each(LAST_MAY, 1..=limits::WAYS, 300);
+    for one_bit in ONE_BIT {
+        tally.expect(one_bit, 8_000);
+    }
+    for end in END {
+        tally.expect(end, 2_000);
+    }
+}
+
+/// The edges of what is worked on in groups. What is one too many is refused, and counted there.
+fn expect_edges(tally: &Tally) {
+    for blocks in EDGES.map(|blocks| blocks as usize) {
+        if blocks <= limits::BLOCKS {
+            tally.expect_each(BLOCKS, blocks..=blocks, 300);
+        }
+    }
+    tally.expect_each(NODES, 1..=2, 5_000);
+    tally.expect_each(NODES, limits::NODES - 1..=limits::NODES, 50);
 }
 
 fn expect_lent(tally: &Tally) {

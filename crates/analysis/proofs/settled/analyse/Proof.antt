@@ -4,7 +4,8 @@ use mathlib.Core.List.{List}
 use native.Mathlib.Omega.{arith}
 use denote.Ref.{now}
 use Rattle.chart.proofs.Answers.{reader-accepts, reader-refuses, found-array}
-use Rattle.analysis.specs.Analysis.{Buffers, analysed}
+use Rattle.refusals.proofs.Saying.{says-too}
+use Rattle.analysis.specs.Analysis.{Buffers, analysed, Left, AnalysedSaid, analysedSays}
 use Rattle.analysis.proofs.Answering.{held-drawn, short-refused, list-room, plan-room, classes-room, answered}
 use Rattle.analysis.proofs.settled.analyse.Statement.{statement}
 use Rattle.analysis.proofs.settled.analyse.Tie as tie
@@ -62,13 +63,17 @@ same-length-4 c = search needs
 same-length-5 : tie.Need-same-length-5
 same-length-5 c = search needs
 
+-- What an analysis says.
+abbrev leftSays : Left → AnalysedSaid
+leftSays left = analysedSays (left .answer)
+
 returns : tie.Need-returns
 returns c =
     let s = c .before .before .before .before .before .before .before .before .before .before .before .before .before .before .before .before .before .before .before .before .before .before in
     let draw = c .before .before .before .before .before .before .before .before .before .before .before .before .before .draw in
     let found = reader-accepts (bytes s) (draw .result) (draw .ensures .0) _ _ (c .before .before .before .before .before .before .before .before .before .verdict .given .1) in
     let short = c .before .short-for in
-    short-refused (bytes s) _ _ (draw .ensures .1) _ _ _ found (s .args .allowance) (buffers s) (short .result) (short .ensures) (c .if1 .taken)
+    says-too leftSays (short-refused (bytes s) _ _ (draw .ensures .1) _ _ _ found (s .args .allowance) (buffers s) (short .result) (short .ensures) (c .if1 .taken))
 
 write-blocks-requires : tie.Need-write-blocks-requires
 write-blocks-requires c κs =
@@ -119,15 +124,16 @@ returns-2 c =
     let draw = c .before .before .before .before .before .before .before .before .before .before .before .before .before .before .before .before .before .before .before .before .before .before .before .before .before .before .before .before .before .before .before .before .before .before .before .draw in
     let found = reader-accepts (bytes s) (draw .result) (draw .ensures .0) _ _ (c .before .before .before .before .before .before .before .before .before .before .before .before .before .before .before .before .before .before .before .before .before .before .before .before .before .before .before .before .before .before .before .verdict .given .1) in
     let short = c .before .before .before .before .before .before .before .before .before .before .before .before .before .before .before .before .before .before .before .before .before .before .before .short-for in
-    answered (bytes s) _ _ (draw .ensures .1) _ _ _ found (s .args .allowance) (buffers s) (short .result) (short .ensures) (c .before .before .before .before .before .before .before .before .before .before .before .before .before .before .before .before .before .before .before .before .before .before .if1 .left)
-    _ (c .before .before .before .before .before .before .before .before .before .before .before .before .before .before .before .before .before .write-blocks .ensures) (c .before .before .before .before .before .before .before .before .settle-table .result) _ _ (c .before .before .before .before .before .before .before .before .settle-table .ensures)
+    says-too leftSays
+    (answered (bytes s) _ _ (draw .ensures .1) _ _ _ found (s .args .allowance) (buffers s) (short .result) (short .ensures) (c .before .before .before .before .before .before .before .before .before .before .before .before .before .before .before .before .before .before .before .before .before .before .if1 .left)
+    _ (c .before .before .before .before .before .before .before .before .before .before .before .before .before .before .before .before .before .write-blocks .ensures) (c .before .before .before .before .before .before .before .before .settle-table .result) _ _ (c .before .before .before .before .before .before .before .before .settle-table .ensures))
 
 returns-3 : tie.Need-returns-3
 unfolding analysed
 returns-3 c =
     let s = c .before .before .before .before .before .before .before .before .before .before .before .before .before .before in
     let draw = c .before .before .before .before .before .draw in
-    rw (reader-refuses (bytes s) (draw .result) (draw .ensures .0) _ (c .before .verdict2 .given .1))
+    says-too leftSays (rw (reader-refuses (bytes s) (draw .result) (draw .ensures .0) _ (c .before .verdict2 .given .1)))
 
 pub analyse-spec : {M : Type 1} → statement M
 analyse-spec =

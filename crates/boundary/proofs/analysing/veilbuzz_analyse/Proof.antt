@@ -1,11 +1,24 @@
 use borrow.Author.Needs.{needs}
-use mathlib.Core.Path.{ap, _∙_}
+use borrow.Author.Tests.{lt-ltb, le-ltb}
+use Prim.Native.Nat.{_≤_, _<_}
+use mathlib.Core.Path.{_≡_, ap, _∙_}
+use native.Mathlib.Omega.{arith}
 use denote.Ref.{now}
+use lib.ListN.{length}
 use Rattle.analysis.specs.Analysis.{Left, analysedSays}
 use Rattle.boundary.specs.Told.{analysedNumbers}
 use Rattle.boundary.proofs.Answers.{answer-told}
 use Rattle.boundary.proofs.analysing.veilbuzz_analyse.Statement.{statement}
 use Rattle.boundary.proofs.analysing.veilbuzz_analyse.Tie as tie
+
+no-room-requires : tie.Need-no-room-requires
+no-room-requires c κs = search needs
+
+returns : tie.Need-returns
+returns c =
+    let few : length (now (c .before .before .before .before .before .before .before .before .before .args .answer)) < 4 = omega arith in
+    let short = lt-ltb _ _ few in
+    (rw (short, c .no-room .ensures), (rw short, rw short))
 
 analyse-requires : tie.Need-analyse-requires
 analyse-requires c κs = search needs
@@ -40,19 +53,23 @@ same-length-5 c = search needs
 same-length-6 : tie.Need-same-length-6
 same-length-6 c = search needs
 
-returns : tie.Need-returns
-returns c =
-    let analysed = c .before .before .before .before .before .before .before .before .before .before .before .before .before .before .before .before .analyse .ensures in
+returns-2 : tie.Need-returns-2
+returns-2 c =
+    let analysed = c .before .before .before .before .before .before .before .before .before .before .before .before .before .before .before .before .analyse .ensures .0 in
+    let lent = now (c .before .before .before .before .before .before .before .before .before .before .before .before .before .before .before .before .before .before .before .before .before .before .before .before .before .before .before .before .before .before .args .answer) in
+    let room : 4 ≤ length lent = omega arith in
     let answer =
-    answer-told _ _ (now (c .before .before .before .before .before .before .before .before .before .before .before .before .before .before .before .before .before .before .before .before .before .before .before .before .before .before .before .before .before .args .answer)) _
+    answer-told _ _ _ lent _ (le-ltb _ _ room)
     (c .before .before .before .before .before .analysed-numbers .ensures ∙ ap (λ (left : Left). analysedNumbers (analysedSays (left .answer))) analysed)
     (c .before .before .tell .ensures) in
-    (answer .0, (ap (λ (left : Left). left .buffers) analysed, answer .1))
+    (answer .0, (rw (le-ltb _ _ room, ap (λ (left : Left). left .buffers) analysed), answer .1))
 
 pub veilbuzz-analyse-spec : {M : Type 1} → statement M
 veilbuzz-analyse-spec =
     tie.close
     (tie.spec
+    no-room-requires
+    returns
     analyse-requires
     analysed-numbers-requires
     slice-aggregate-tell
@@ -64,4 +81,4 @@ veilbuzz-analyse-spec =
     same-length-4
     same-length-5
     same-length-6
-    returns)
+    returns-2)

@@ -1,5 +1,4 @@
 use borrow.Author.Needs.{needs}
-use borrow.Author.Tests.{lt-ltb, le-ltb}
 use Prim.Native.Nat.{_≤_, _-_}
 use mathlib.Core.Path.{_≡_, refl}
 use native.Mathlib.Omega.{arith}
@@ -17,9 +16,6 @@ Inv-loop numbers lent₀ count k₀ lent k =
 
 abbrev μ-loop : tie.MeasureT-loop
 μ-loop numbers lent₀ count k₀ lent k = count - k
-
-returns : tie.Need-returns Inv-loop μ-loop
-returns c = rw (lt-ltb _ _ (c .if1 .taken))
 
 loop-holds : tie.Need-loop-holds Inv-loop μ-loop
 loop-holds c = search needs
@@ -48,18 +44,17 @@ loop-again c = (search needs, (search needs, patch-turn0 _ _ _ _ _ (c .before .b
 same-length : tie.Need-same-length Inv-loop μ-loop
 same-length c = search needs
 
-returns-2 : tie.Need-returns-2 Inv-loop μ-loop
-returns-2 c =
-    let lent = now (c .before .before .before .args .lent) in
-    let numbers = now (c .before .before .before .args .numbers) in
+returns : tie.Need-returns Inv-loop μ-loop
+returns c =
+    let lent = now (c .before .before .args .lent) in
+    let numbers = now (c .before .before .args .numbers) in
     let end : c .before .loop .k ≡ length numbers = omega arith in
-    let room : length numbers ≤ length lent = omega arith in
+    let room : length numbers ≤ length lent = c .before .before .pre in
     rw (
       c .before .loop .inv .1 .1,
       end,
       patch-written lent (length numbers) (λ j. getD numbers j 0) room,
       listOf-all numbers 0,
-      le-ltb _ _ (c .before .before .if1 .left),
     )
 
 pub tell-spec : {M : Type 1} → statement M
@@ -68,7 +63,6 @@ tell-spec =
     (tie.spec
     Inv-loop
     μ-loop
-    returns
     loop-holds
     mul-lent
     shared-slice-read-lent
@@ -78,4 +72,4 @@ tell-spec =
     loop-less
     loop-again
     same-length
-    returns-2)
+    returns)

@@ -10,7 +10,8 @@ use Rattle.chart.specs.declared.headers.HeaderRead.{HeaderRead}
 use Rattle.chart.specs.declared.headers.HeaderRead.the-variants.{Accepted, Refused}
 use Rattle.chart.specs.declared.headers.HeaderFields.{HeaderFields}
 use Rattle.chart.specs.Layout.{chartLength}
-use Rattle.chart.specs.Header.{headerFields, headerOf, headerRules, headerRead}
+use Rattle.refusals.proofs.Saying.{says-too}
+use Rattle.chart.specs.Header.{headerFields, headerOf, headerRules, headerRead, headerSays}
 use Rattle.chart.proofs.headers.read_header.Statement.{statement}
 use Rattle.chart.proofs.headers.read_header.Tie as tie
 
@@ -21,7 +22,7 @@ answerIn bytes fields =
 
 returns : tie.Need-returns
 unfolding headerRead
-returns c = rw (lt-ltb _ _ (c .if1 .taken))
+returns c = says-too headerSays (rw (lt-ltb _ _ (c .if1 .taken)))
 
 word-at-requires : tie.Need-word-at-requires
 word-at-requires c κs = search needs
@@ -46,8 +47,9 @@ returns-2 : tie.Need-returns-2
 unfolding headerRead
 returns-2 c =
     let bytes = c .before .before .before .before .before .args .chart .now in
-    rw (le-ltb _ _ (c .before .before .before .if1 .left))
-    (c .header-of .ensures ∙ ap (answerIn bytes) (c .before .header-fields .ensures ∙ ap headerFields (c .before .before .word-at .ensures)))
+    says-too headerSays
+    (rw (le-ltb _ _ (c .before .before .before .if1 .left))
+    (c .header-of .ensures ∙ ap (answerIn bytes) (c .before .header-fields .ensures ∙ ap headerFields (c .before .before .word-at .ensures))))
 
 pub read-header-spec : {M : Type 1} → statement M
 read-header-spec =

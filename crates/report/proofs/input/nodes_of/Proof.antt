@@ -16,11 +16,11 @@ enum-told c = search needs
 
 returns : tie.Need-returns
 returns c =
-    let e = sym (c .before .before .before .read-header .ensures) ∙ c .before .read .given .1 in
+    let e = sym (c .before .before .before .read-header .ensures .0) ∙ c .before .read .given .1 in
     (read-nodes (c .before .before .before .before .before .args .chart .now) _ e, sym (ap nodesRead e))
 
 returns-2 : tie.Need-returns-2
-returns-2 c = (search needs, sym (ap nodesRead (sym (c .before .before .read-header .ensures) ∙ c .enum-told .given .1)))
+returns-2 c = (search needs, sym (ap nodesRead (sym (c .before .before .read-header .ensures .0) ∙ c .enum-told .given .1)))
 
 pub nodes-of-spec : {M : Type 1} → statement M
 nodes-of-spec =

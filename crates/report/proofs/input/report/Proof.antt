@@ -5,6 +5,7 @@ use lib.ListN.{length-take}
 use lib.Seq.{take-all}
 use Rattle.chart.specs.Geometry.{longestChart}
 use Rattle.report.specs.Report.{report}
+use Rattle.report.specs.Ending.{refuses}
 use Rattle.report.proofs.input.report.Statement.{statement}
 use Rattle.report.proofs.input.report.Tie as tie
 
@@ -12,7 +13,7 @@ report-bytes-requires : tie.Need-report-bytes-requires
 report-bytes-requires c κs = search needs
 
 returns : tie.Need-returns
-unfolding report
+unfolding report refuses
 returns c = (rw (take-all (longestChart + 1) (c .before .before .before .args .input .now) (omega arith)) (c .report-bytes .ensures .0), c .report-bytes .ensures .1)
 
 slice-aggregate-report-bytes : tie.Need-slice-aggregate-report-bytes
@@ -22,7 +23,7 @@ report-bytes-requires-2 : tie.Need-report-bytes-requires-2
 report-bytes-requires-2 c κs = search needs
 
 returns-2 : tie.Need-returns-2
-unfolding report
+unfolding report refuses
 returns-2 c = c .report-bytes2 .ensures
 
 pub report-spec : {M : Type 1} → statement M

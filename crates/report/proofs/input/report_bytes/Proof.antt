@@ -1,11 +1,12 @@
 use borrow.Author.Needs.{needs}
 use Prim.Native.Nat.{ℕ}
 use mathlib.Core.List.{List}
-use mathlib.Core.Path.{_≡_, ap, _∙_}
+use mathlib.Core.Path.{_≡_, _∙_}
 use Rattle.chart.specs.Geometry.{mostNodes, mostBlocks}
 use Rattle.chart.specs.Geometry.{allPasses}
 use Rattle.analysis.specs.Analysis.{Left, analysed}
 use Rattle.report.specs.Report.{reportOf, zeroBuffers}
+use Rattle.report.specs.Ending.{refusedBy}
 use Rattle.report.specs.Written.{textOf}
 use Rattle.report.proofs.Inputs.{nodes-counted}
 use Rattle.report.proofs.input.report_bytes.Statement.{statement}
@@ -41,10 +42,10 @@ written-requires c κs = search needs
 returns : tie.Need-returns
 returns c =
     let bytes : List ℕ = c .before .before .before .before .before .before .before .before .before .before .before .before .before .before .before .args .chart .now in
-    let left : _≡_ {A = Left} _ (analysed bytes allPasses (zeroBuffers mostNodes mostBlocks)) = c .before .before .before .before .before .before .before .before .analyse .ensures in (
+    let left : _≡_ {A = Left} _ (analysed bytes allPasses (zeroBuffers mostNodes mostBlocks)) = c .before .before .before .before .before .before .before .before .analyse .ensures .0 in (
       c .written .ensures .0
-          ∙ (λ i. textOf (reportOf (c .before .before .nodes-of .ensures .1 i) (left i .buffers .classes) (left i .answer)))
-          ∙ ap textOf (nodes-counted bytes allPasses (zeroBuffers mostNodes mostBlocks)),
+          ∙ (λ i. textOf (reportOf (c .before .before .nodes-of .ensures .1 i) (left i .buffers .classes) (left i .answer)) (refusedBy (left i .answer)))
+          ∙ (λ i. textOf (nodes-counted bytes allPasses (zeroBuffers mostNodes mostBlocks) i) (refusedBy (analysed bytes allPasses (zeroBuffers mostNodes mostBlocks) .answer))),
       c .written .ensures .1,
     )
 

@@ -4,6 +4,9 @@ use Rattle.report.proofs.Zeros.{report-put}
 use Rattle.report.proofs.text.written.Statement.{statement}
 use Rattle.report.proofs.text.written.Tie as tie
 
+refused-by-requires : tie.Need-refused-by-requires
+refused-by-requires c κs = search needs
+
 enum-known-answer : tie.Need-enum-known-answer
 enum-known-answer c = search needs
 
@@ -34,25 +37,29 @@ put-refused-requires-2 c κs = search needs
 returns : tie.Need-returns
 returns c =
     let b = c .before .before .before .before in
-    let a = b .before .before .before .args in
-    (report-put (a .nodes) (a .classes .now) (a .answer) _ (b .answer .given .1) (c .before .put-settled .ensures) (omega arith), omega arith)
+    let t = b .before .before in
+    let a = t .before .before .args in
+    (report-put (a .nodes) (a .classes .now) (a .answer) _ _ (b .answer .given .1) (t .refused-by .ensures) (c .before .put-settled .ensures) (omega arith), omega arith)
 
 returns-2 : tie.Need-returns-2
 returns-2 c =
     let b = c .before .before .before in
-    let a = b .before .before .before .args in
-    (report-put (a .nodes) (a .classes .now) (a .answer) _ (b .enum-told .given .1) (c .before .put-refused .ensures) (omega arith), omega arith)
+    let t = b .before .before in
+    let a = t .before .before .args in
+    (report-put (a .nodes) (a .classes .now) (a .answer) _ _ (b .enum-told .given .1) (t .refused-by .ensures) (c .before .put-refused .ensures) (omega arith), omega arith)
 
 returns-3 : tie.Need-returns-3
 returns-3 c =
     let b = c .before .before .before .before in
-    let a = b .before .before .before .args in
-    (report-put (a .nodes) (a .classes .now) (a .answer) _ (b .answer2 .given .1) (c .before .put-refused2 .ensures) (omega arith), omega arith)
+    let t = b .before .before in
+    let a = t .before .before .args in
+    (report-put (a .nodes) (a .classes .now) (a .answer) _ _ (b .answer2 .given .1) (t .refused-by .ensures) (c .before .put-refused2 .ensures) (omega arith), omega arith)
 
 pub written-spec : {M : Type 1} → statement M
 written-spec =
     tie.close
     (tie.spec
+    refused-by-requires
     enum-known-answer
     slice-aggregate-put-settled
     put-settled-requires

@@ -28,7 +28,7 @@ check-requires c κs = search needs
 
 returns : tie.Need-returns
 returns c =
-    c .check .ensures
+    c .check .ensures .0
     ∙ (λ i. checked (c .before .before .before .before .before .before .before .before .before .loop-chart .ensures i) (c .before .before .before .before .before .before .before .before .loop-table .ensures i))
     ∙ sounded .loop-checked
 

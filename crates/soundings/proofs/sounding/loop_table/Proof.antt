@@ -33,7 +33,7 @@ analyse-requires c κs = search needs
 
 returns : tie.Need-returns
 returns c =
-    let left : _≡_ {A = Left} _ (analysed (c .before .before .before .before .before .before .before .before .before .before .before .before .loop-chart .result) allPasses (zeroBuffers 3 2)) = c .before .before .before .before .before .analyse .ensures in
+    let left : _≡_ {A = Left} _ (analysed (c .before .before .before .before .before .before .before .before .before .before .before .before .loop-chart .result) allPasses (zeroBuffers 3 2)) = c .before .before .before .before .before .analyse .ensures .0 in
     (λ i. tableIn (left i .buffers))
     ∙ (λ i. tableIn (analysed (c .before .before .before .before .before .before .before .before .before .before .before .before .loop-chart .ensures i) allPasses (zeroBuffers (sym loop-nodes i) 2) .buffers))
 

@@ -36,7 +36,7 @@ total-requires c κs = search needs
 
 returns : tie.Need-returns
 returns c =
-    let priced : _≡_ {A = Totals} _ (totals _ _ loopPrices) = c .total .ensures in
+    let priced : _≡_ {A = Totals} _ (totals _ _ loopPrices) = c .total .ensures .0 in
     priced
     ∙ (λ i. totals (c .before .before .before .before .before .before .before .before .before .before .before .loop-chart .ensures i) (c .before .before .before .before .before .before .before .before .before .before .loop-table .ensures i) loopPrices)
     ∙ sounded .loop-totals

@@ -1,0 +1,269 @@
+-- The reader's tests tell when each of refusals 1 to 10 applies.
+use Prim.Native.Nat.{ℕ, zero, suc, _+_, _*_, _-_, _/_, _^_, _≤_, _<_}
+use mathlib.Core.Bool.{Bool, true, false, cond, not, _&&_, _||_}
+use mathlib.Core.List.{List, [], _∷_}
+use mathlib.Core.Logic.{_⊎_, inl, inr}
+use mathlib.Core.Path.{_≡_, refl, sym, ap, subst, _∙_}
+use native.Mathlib.Omega.{arith}
+use borrow.Author.Tests.{ltb-true, ltb-false, not-true, not-false, lt-ltb, le-ltb}
+use lib.Dec.{ltb, leb, eqb}
+use lib.ListN.{length}
+use Rattle.lists.specs.Choice.{FirstApplies, NoneApplies, first}
+use Rattle.lists.specs.Telling.{Tells, AllTell, Numbered, Answered}
+use Rattle.lists.proofs.Choice.{first-applies, applies-first, none-applies, first-otherwise, none-passes}
+use Rattle.lists.proofs.Firsts.{first-test, first-fails, first-is}
+use Rattle.blocks.specs.Blocks.{gathered, overfull}
+use Rattle.chart.specs.declared.records.Record.the-variants.{Step, Reference}
+use Rattle.chart.specs.declared.shape.Geometry.{Geometry}
+use Rattle.refusals.specs.declared.Refusal.{Refusal}
+use Rattle.refusals.specs.declared.Refusal.the-variants.{TooShort, Edition, Shape, StartCode, NodeCount, EntryNode, SpareBits, Length, BrokenRecord, TooManyBlocks, ShortBuffer, Unsettled, NotPassing, BoundsLength, Costs, FloorAboveCeiling, FloorAtUnmarked}
+use Rattle.refusals.specs.Refusals.{numberOf}
+use Rattle.chart.specs.declared.headers.HeaderFields.{HeaderFields}
+use Rattle.chart.specs.declared.records.RecordFields.{RecordFields}
+use Rattle.chart.specs.Geometry.{mostNodes, mostBlocks, mostSetBits, mostWays, blockOf, between, shapeAllowed}
+use Rattle.chart.specs.Layout.{chartLength}
+use Rattle.chart.specs.Header.{geometryOf, fieldsIn, headerIn}
+use Rattle.chart.specs.Record.{arrowKeeps, recordKeeps, recordOf, touchesOf, blocksOf}
+use Rattle.chart.specs.Chart.{Chart, accepted, refused, recordsIn, brokenAt, firstBroken, overfullAt, firstOverfull, blocksAt, chartIn, chartRules, readChart}
+use Rattle.chart.specs.Bytes.{AreBytes, headerBytes, recordBytes}
+use Rattle.chart.specs.Refusing.{ShapeKept, RecordKept, nodesSaid, FirstBroken, blocksSaid, blocksBefore, FirstOver, Applies}
+use Rattle.lists.proofs.Telling.{tells-ltb, tells-leb, tells-eqb, tells-not, tells-and, tells-same, tells-if, holds-true, fails-false, first-only, first-given, none-given, none-only}
+use Rattle.blocks.proofs.Exact.{gathered-same, gathered-longer}
+use Rattle.chart.proofs.Bytes.{header-bytes, record-bytes}
+
+false-not : (t : Bool) → t ≡ false → not t ≡ true
+false-not t e = rw e
+
+true-not : (t : Bool) → t ≡ true → not t ≡ false
+true-not t e = rw e
+
+-- ---- the shape, and a record
+
+tells-between : (least most n : ℕ) → Tells (between least most n) ((least ≤ n) × (n ≤ most))
+tells-between least most n = tells-and (leb least n) (leb n most) (least ≤ n) (n ≤ most) (tells-leb least n) (tells-leb n most)
+
+tells-shape : (fields : HeaderFields) → Tells (shapeAllowed (geometryOf fields)) (ShapeKept fields)
+unfolding shapeAllowed
+tells-shape fields =
+    tells-same _ _ (ShapeKept fields)
+    (λ h. record { line-from = h .0 .0; line-to = h .0 .1; sets-to = h .1 .0 .1; ways-from = h .1 .1 .0; ways-to = h .1 .1 .1 })
+    (λ k. ((k .line-from, k .line-to), ((omega arith, k .sets-to), (k .ways-from, k .ways-to))))
+    (tells-and _ _ _ _ (tells-between 2 8 (fields .line))
+    (tells-and _ _ _ _ (tells-between 0 mostSetBits (fields .sets)) (tells-between 1 mostWays (fields .ways))))
+
+-- An arrow's rule: below N where it is used, else 0.
+tells-arrow : (nodes least outs target : ℕ) → Tells (arrowKeeps nodes (ltb least outs) target) ((least < outs → target < nodes) × (outs ≤ least → target ≡ 0))
+tells-arrow nodes least outs target = go (ltb least outs) refl
+  where
+    go : (t : Bool) → ltb least outs ≡ t → Tells (arrowKeeps nodes t target) ((least < outs → target < nodes) × (outs ≤ least → target ≡ 0))
+    go true e =
+        let used = ltb-true least outs e in
+        tells-same (ltb target nodes) (target < nodes) _ (λ h. ((λ _. h), λ k. absurd (omega arith))) (λ h. h .0 used) (tells-ltb target nodes)
+    go false e =
+        let unused = ltb-false least outs e in
+        tells-same (eqb target 0) (target ≡ 0) _ (λ h. ((λ k. absurd (omega arith)), λ _. h)) (λ h. h .1 unused) (tells-eqb target 0)
+
+tells-record : (nodes : ℕ) (fields : RecordFields) → Tells (recordKeeps nodes fields) (RecordKept nodes fields)
+unfolding recordKeeps
+tells-record nodes fields =
+    tells-same _ _ (RecordKept nodes fields)
+    (λ h. record {
+      kinds = h .0;
+      addresses = h .1 .0;
+      steps = h .1 .1 .0;
+      arrows = h .1 .1 .1 .0;
+      first-used = λ k. h .1 .1 .1 .1 .0 .0 (omega arith);
+      first-unused = λ k. h .1 .1 .1 .1 .0 .1 (omega arith);
+      second-used = λ k. h .1 .1 .1 .1 .1 .0 .0 (omega arith);
+      second-unused = λ k. h .1 .1 .1 .1 .1 .0 .1 (omega arith);
+      spares = h .1 .1 .1 .1 .1 .1;
+    })
+    (λ k. (
+      k .kinds,
+      (
+        k .addresses,
+        (
+          k .steps,
+          (
+            k .arrows,
+            (
+              ((λ h. k .first-used (omega arith)), λ h. k .first-unused (omega arith)),
+              (((λ h. k .second-used (omega arith)), λ h. k .second-unused (omega arith)), k .spares),
+            ),
+          ),
+        ),
+      ),
+    ))
+    (tells-and _ _ _ _ (tells-leb (fields .kind) 2)
+    (tells-and _ _ _ _ (tells-ltb (fields .address) (2 ^ 32))
+    (tells-and _ _ _ _ (tells-if _ _ _ _ (tells-eqb (fields .kind) 0) (tells-eqb (fields .address) 0))
+    (tells-and _ _ _ _ (tells-leb (fields .outs) 2)
+    (tells-and _ _ _ _ (tells-arrow nodes 0 (fields .outs) (fields .first))
+    (tells-and _ _ _ _ (tells-arrow nodes 1 (fields .outs) (fields .second)) (tells-eqb (fields .spare) 0)))))))
+
+-- The blocks of a record: none of a bare step, else the one that holds its address.
+record-blocks : (geometry : Geometry) (fields : RecordFields) → blocksOf (touchesOf geometry (recordOf fields)) ≡ cond (eqb (fields .kind) 0) [] ((fields .address / 2 ^ geometry .line) ∷ [])
+unfolding recordOf touchesOf blockOf
+record-blocks geometry fields = go (eqb (fields .kind) 0)
+  where
+    go : (t : Bool) → blocksOf (touchesOf geometry (cond t Step (Reference (record { write = eqb (fields .kind) 2; address = fields .address })))) ≡ cond t [] ((fields .address / 2 ^ geometry .line) ∷ [])
+    go true = refl
+    go false = refl
+
+module _ (bytes : List ℕ) (small : AreBytes bytes) where
+  nodes-said : fieldsIn bytes .nodes ≡ nodesSaid bytes
+  nodes-said = ap (λ (f : HeaderFields). f .nodes) (header-bytes bytes small)
+
+  -- A test of the fields that words have, told by what bytes say.
+  of-fields : {S : Type 0} (test : HeaderFields → Bool) → Tells (test (headerBytes bytes)) S → Tells (test (fieldsIn bytes)) S
+  of-fields {S} test h = subst (λ (f : HeaderFields). Tells (test f) S) (sym (header-bytes bytes small)) h
+
+  -- ---- the first node whose record breaks its rules
+
+  tells-kept : (n : ℕ) → Tells (recordKeeps (fieldsIn bytes .nodes) (recordsIn bytes n)) (RecordKept (nodesSaid bytes) (recordBytes bytes n))
+  tells-kept n =
+      subst (λ (f : RecordFields). Tells (recordKeeps (fieldsIn bytes .nodes) f) (RecordKept (nodesSaid bytes) (recordBytes bytes n))) (sym (record-bytes bytes small n))
+      (subst (λ (k : ℕ). Tells (recordKeeps k (recordBytes bytes n)) (RecordKept (nodesSaid bytes) (recordBytes bytes n))) (sym nodes-said)
+      (tells-record (nodesSaid bytes) (recordBytes bytes n)))
+
+  abbrev broken : ℕ → Bool
+  broken = brokenAt (recordsIn bytes) (fieldsIn bytes .nodes)
+
+  found-broken : (n : ℕ) → first (fieldsIn bytes .nodes) broken ≡ n → n < fieldsIn bytes .nodes → FirstBroken bytes n
+  found-broken n e h =
+      let tests : (i : ℕ) → i < n → broken i ≡ false = λ i k. first-fails (fieldsIn bytes .nodes) broken i (omega arith) in
+      let here : broken (first (fieldsIn bytes .nodes) broken) ≡ true = first-test (fieldsIn bytes .nodes) broken (omega arith) in
+      record {
+        inside = omega (arith, nodes-said);
+        breaks = λ k. tells-kept n .1 (not-true _ (rw e at here)) k;
+        earlier = λ i k. tells-kept i .0 (not-false _ (tests i k));
+      }
+
+  broken-found : (n : ℕ) → FirstBroken bytes n → first (fieldsIn bytes .nodes) broken ≡ n
+  broken-found n h =
+      first-is (fieldsIn bytes .nodes) broken n (omega (arith, h .inside, nodes-said))
+      (false-not _ (fails-false _ _ (tells-kept n) (h .breaks)))
+      (λ i k. true-not _ (holds-true _ _ (tells-kept i) (h .earlier i k)))
+
+  -- ---- the first node that brings a block too many
+
+  blocks-said : (n : ℕ) → blocksAt (headerIn bytes .geometry) (recordsIn bytes) n ≡ blocksSaid bytes n
+  blocks-said n =
+      subst (λ (f : RecordFields). blocksOf (touchesOf (headerIn bytes .geometry) (recordOf f)) ≡ blocksSaid bytes n) (sym (record-bytes bytes small n))
+      (record-blocks (headerIn bytes .geometry) (recordBytes bytes n)
+      ∙ ap (λ (f : HeaderFields). cond (eqb (recordBytes bytes n .kind) 0) [] ((recordBytes bytes n .address / 2 ^ f .line) ∷ [])) (header-bytes bytes small))
+
+  abbrev over : ℕ → Bool
+  over = overfullAt (headerIn bytes .geometry) (recordsIn bytes)
+
+  over-said : (n : ℕ) → over n ≡ ltb mostBlocks (length (blocksBefore bytes (suc n)))
+  unfolding overfull
+  over-said n = ap (λ (l : List ℕ). ltb mostBlocks (length l)) (gathered-same _ (blocksSaid bytes) blocks-said (suc n))
+
+  found-over : (n : ℕ) → first (fieldsIn bytes .nodes) over ≡ n → n < fieldsIn bytes .nodes → FirstOver bytes n
+  unfolding gathered
+  found-over n e h =
+      let tests : (i : ℕ) → i < n → over i ≡ false = λ i k. first-fails (fieldsIn bytes .nodes) over i (omega arith) in
+      let here : over (first (fieldsIn bytes .nodes) over) ≡ true = first-test (fieldsIn bytes .nodes) over (omega arith) in
+      record {
+        inside = omega (arith, nodes-said);
+        over = ltb-true mostBlocks (length (blocksBefore bytes (suc n))) (sym (over-said n) ∙ (rw e at here));
+        earlier = few n tests;
+      }
+    where
+      few : (n : ℕ) → ((i : ℕ) → i < n → over i ≡ false) → length (blocksBefore bytes n) ≤ mostBlocks
+      few zero tests = omega arith
+      few (suc n) tests = ltb-false mostBlocks (length (blocksBefore bytes (suc n))) (sym (over-said n) ∙ tests n (omega arith))
+
+  over-found : (n : ℕ) → FirstOver bytes n → first (fieldsIn bytes .nodes) over ≡ n
+  over-found n h =
+      first-is (fieldsIn bytes .nodes) over n (omega (arith, h .inside, nodes-said))
+      (over-said n ∙ lt-ltb mostBlocks (length (blocksBefore bytes (suc n))) (h .over))
+      (λ i k. over-said i ∙ le-ltb mostBlocks (length (blocksBefore bytes (suc i))) (omega (arith, h .earlier, gathered-longer (blocksSaid bytes) (suc i) n (omega arith))))
+
+  -- ---- all ten
+
+  all-tell : AllTell (Applies bytes) (chartRules bytes)
+  unfolding firstBroken firstOverfull
+  all-tell = (
+    tells-ltb (length bytes) 8,
+    (
+      of-fields (λ f. not (eqb (f .edition) 1)) (tells-not _ _ (tells-eqb (headerBytes bytes .edition) 1)),
+      (
+        of-fields (λ f. not (shapeAllowed (geometryOf f))) (tells-not _ _ (tells-shape (headerBytes bytes))),
+        (
+          of-fields (λ f. ltb 1 (f .start)) (tells-ltb 1 (headerBytes bytes .start)),
+          (
+            of-fields (λ f. not (between 1 mostNodes (f .nodes))) (tells-not _ _ (tells-between 1 mostNodes (nodesSaid bytes))),
+            (
+              of-fields (λ f. leb (f .nodes) (f .entry)) (tells-leb (nodesSaid bytes) (headerBytes bytes .entry)),
+              (
+                of-fields (λ f. not (eqb (f .«first_spare») 0 && eqb (f .«second_spare») 0))
+                    (tells-not _ _ (tells-and _ _ _ _ (tells-eqb (headerBytes bytes .«first_spare») 0) (tells-eqb (headerBytes bytes .«second_spare») 0))),
+                (
+                  of-fields (λ f. not (eqb (length bytes) (chartLength (f .nodes)))) (tells-not _ _ (tells-eqb (length bytes) (8 + 8 * nodesSaid bytes))),
+                  (
+                    ((λ e. found-broken _ refl (ltb-true _ (fieldsIn bytes .nodes) e)), λ e h. omega (arith, ltb-false _ (fieldsIn bytes .nodes) e, h .inside, nodes-said)),
+                    (
+                      ((λ e. found-over _ refl (ltb-true _ (fieldsIn bytes .nodes) e)), λ e h. omega (arith, ltb-false _ (fieldsIn bytes .nodes) e, h .inside, nodes-said)),
+                      tt,
+                    ),
+                  ),
+                ),
+              ),
+            ),
+          ),
+        ),
+      ),
+    ),
+  )
+
+  numbered : Numbered numberOf 0 (chartRules bytes)
+  numbered =
+      (omega arith, (omega arith, (omega arith, (omega arith, (omega arith, (omega arith, (omega arith, (omega arith, (omega arith, (omega arith, tt))))))))))
+
+  answered : (refusal : Refusal) → Applies bytes refusal → Answered refusal (chartRules bytes)
+  unfolding firstBroken firstOverfull
+  answered TooShort h = inl refl
+  answered Edition h = inr (inl refl)
+  answered Shape h = inr (inr (inl refl))
+  answered StartCode h = inr (inr (inr (inl refl)))
+  answered NodeCount h = inr (inr (inr (inr (inl refl))))
+  answered EntryNode h = inr (inr (inr (inr (inr (inl refl)))))
+  answered SpareBits h = inr (inr (inr (inr (inr (inr (inl refl))))))
+  answered Length h = inr (inr (inr (inr (inr (inr (inr (inl refl)))))))
+  answered (BrokenRecord n) h = inr (inr (inr (inr (inr (inr (inr (inr (inl (ap BrokenRecord (broken-found n h))))))))))
+  answered (TooManyBlocks n) h = inr (inr (inr (inr (inr (inr (inr (inr (inr (inl (ap TooManyBlocks (over-found n h)))))))))))
+  answered ShortBuffer h = absurd h
+  answered Unsettled h = absurd h
+  answered NotPassing h = absurd h
+  answered BoundsLength h = absurd h
+  answered Costs h = absurd h
+  answered (FloorAboveCeiling n) h = absurd h
+  answered (FloorAtUnmarked n) h = absurd h
+
+  -- ---- the first that applies is given, and only that
+
+  pub refuses-first : (refusal : Refusal) → readChart bytes ≡ refused refusal → Applies bytes refusal × ((other : Refusal) → numberOf other < numberOf refusal → Applies bytes other → ⊥)
+  unfolding readChart
+  refuses-first refusal e =
+      let rule : FirstApplies (chartRules bytes) refusal = applies-first refused (chartRules bytes) (accepted (chartIn bytes)) refusal (λ a b q. cc) (λ q. let z : _≡_ {A = ℕ} 0 1 = cc in omega arith) e in
+      let only = first-only numberOf (Applies bytes) 0 (chartRules bytes) numbered all-tell refusal rule in
+      (only .0, λ other less h. only .1 other (answered other h) less h)
+
+  pub first-refuses : (refusal : Refusal) → Applies bytes refusal → ((other : Refusal) → numberOf other < numberOf refusal → Applies bytes other → ⊥) → readChart bytes ≡ refused refusal
+  unfolding readChart
+  first-refuses refusal h none =
+      first-applies refused (chartRules bytes) (accepted (chartIn bytes)) refusal
+      (first-given numberOf (Applies bytes) 0 (chartRules bytes) numbered all-tell refusal (answered refusal h) h none)
+
+  pub none-accepts : ((refusal : Refusal) → Applies bytes refusal → ⊥) → readChart bytes ≡ accepted (chartIn bytes)
+  unfolding readChart
+  none-accepts none = first-otherwise refused (chartRules bytes) (accepted (chartIn bytes)) (none-given numberOf (Applies bytes) (chartRules bytes) all-tell none)
+
+  pub accepts-none : (chart : Chart) → readChart bytes ≡ accepted chart → (refusal : Refusal) → Applies bytes refusal → ⊥
+  unfolding readChart
+  accepts-none chart e refusal h =
+      none-only numberOf (Applies bytes) (chartRules bytes) all-tell
+      (none-applies refused (chartRules bytes) (accepted (chartIn bytes)) (accepted chart) (λ x q. let z : _≡_ {A = ℕ} 0 1 = cc in omega arith) e)
+      refusal (answered refusal h) h

@@ -1,0 +1,31 @@
+-- The reader's soundings hold, by computing.
+use mathlib.Core.List.{[], _∷_}
+use mathlib.Core.Path.{_≡_, refl}
+use Rattle.lists.specs.Soundings.{Hold}
+use Rattle.blocks.specs.Blocks.{gathered, overfull}
+use Rattle.chart.specs.Layout.{wordAt}
+use Rattle.chart.specs.Geometry.{blockOf, shapeAllowed}
+use Rattle.chart.specs.Record.{recordKeeps, recordOf, arrowsOf, touchesOf}
+use Rattle.chart.specs.Chart.{firstBroken, firstOverfull, readChart}
+use Rattle.chart.specs.Reading.{readingOf}
+use Rattle.chart.specs.Sounded.{chartFields, readOut, manyBlocks, ChartSounded}
+
+-- All that has to be seen through for a chart to be read.
+everything : Unit {0}
+unfolding readingOf wordAt blockOf shapeAllowed recordKeeps recordOf arrowsOf touchesOf gathered overfull firstBroken firstOverfull readChart
+everything = tt
+
+fields-hold : Hold chartFields
+unfolding everything
+fields-hold = refl
+
+all-blocks : readOut (manyBlocks 65) ≡ 0 ∷ 0 ∷ 64 ∷ []
+unfolding everything
+all-blocks = refl
+
+one-block-more : readOut (manyBlocks 66) ≡ 10 ∷ 65 ∷ 0 ∷ []
+unfolding everything
+one-block-more = refl
+
+pub chart-sounded : ChartSounded
+chart-sounded = record { fields-hold = fields-hold; header-whole = λ header. refl; all-blocks = all-blocks; one-block-more = one-block-more }

@@ -1,0 +1,81 @@
+-- When each of refusals 1 to 10 applies, as statements about the bytes: document 01, "When the tool says no", row by row. The tests of
+-- `Header.antt`, `Record.antt` and `Chart.antt` run; these are read. Demand 1 promises that the two agree. The limits of N, S, A and the
+-- blocks are the geometry's on both sides: their numbers are sounded.
+use Prim.Native.Nat.{ℕ, suc, _+_, _*_, _/_, _^_, _≤_, _<_}
+use mathlib.Core.Bool.{cond}
+use mathlib.Core.List.{List, [], _∷_}
+use mathlib.Core.Path.{_≡_}
+use lib.ListN.{length}
+use lib.Dec.{eqb}
+use Rattle.blocks.specs.Blocks.{gathered}
+use Rattle.chart.specs.declared.headers.HeaderFields.{HeaderFields}
+use Rattle.chart.specs.declared.records.RecordFields.{RecordFields}
+use Rattle.refusals.specs.declared.Refusal.{Refusal}
+use Rattle.refusals.specs.declared.Refusal.the-variants.{TooShort, Edition, Shape, StartCode, NodeCount, EntryNode, SpareBits, Length, BrokenRecord, TooManyBlocks, ShortBuffer, Unsettled, NotPassing, BoundsLength, Costs, FloorAboveCeiling, FloorAtUnmarked}
+use Rattle.chart.specs.Geometry.{mostNodes, mostBlocks, mostSetBits, mostWays}
+use Rattle.chart.specs.Bytes.{headerBytes, recordBytes}
+
+-- L from 2 to 8, S from 0 to 8, A from 1 to 8.
+pub record ShapeKept (fields : HeaderFields) : Type 0 where
+  pub line-from : 2 ≤ fields .line
+  pub line-to : fields .line ≤ 8
+  pub sets-to : fields .sets ≤ mostSetBits
+  pub ways-from : 1 ≤ fields .ways
+  pub ways-to : fields .ways ≤ mostWays
+
+-- The rules of a record in a chart of so many nodes. (An address of bytes has 32 bits in any case.)
+pub record RecordKept (nodes : ℕ) (fields : RecordFields) : Type 0 where
+  pub kinds : fields .kind ≤ 2
+  pub addresses : fields .address < 2 ^ 32
+  pub steps : fields .kind ≡ 0 → fields .address ≡ 0
+  pub arrows : fields .outs ≤ 2
+  pub first-used : 1 ≤ fields .outs → fields .first < nodes
+  pub first-unused : fields .outs ≡ 0 → fields .first ≡ 0
+  pub second-used : 2 ≤ fields .outs → fields .second < nodes
+  pub second-unused : fields .outs ≤ 1 → fields .second ≡ 0
+  pub spares : fields .spare ≡ 0
+
+-- N, as the bytes say it.
+abbrev pub nodesSaid : List ℕ → ℕ
+nodesSaid bytes = headerBytes bytes .nodes
+
+-- "first such node": its record breaks a rule, and none before it does.
+pub record FirstBroken (bytes : List ℕ) (n : ℕ) : Type 0 where
+  pub inside : n < nodesSaid bytes
+  pub breaks : RecordKept (nodesSaid bytes) (recordBytes bytes n) → ⊥
+  pub earlier : (i : ℕ) → i < n → RecordKept (nodesSaid bytes) (recordBytes bytes i)
+
+-- The blocks that node n touches, as the bytes say it: none if it is a bare step, else address / 2^L, rounded down.
+abbrev pub blocksSaid : List ℕ → ℕ → List ℕ
+blocksSaid bytes n =
+    cond (eqb (recordBytes bytes n .kind) 0) [] ((recordBytes bytes n .address / 2 ^ headerBytes bytes .line) ∷ [])
+
+-- The blocks that nodes 0 to n - 1 touch; demand 1 promises that they are exactly these (`counted-blocks`).
+abbrev pub blocksBefore : List ℕ → ℕ → List ℕ
+blocksBefore bytes n = gathered (blocksSaid bytes) n
+
+-- "node bringing the 65th, in node order"
+pub record FirstOver (bytes : List ℕ) (n : ℕ) : Type 0 where
+  pub inside : n < nodesSaid bytes
+  pub over : mostBlocks < length (blocksBefore bytes (suc n))
+  pub earlier : length (blocksBefore bytes n) ≤ mostBlocks
+
+-- When each applies, whether or not another does too.
+abbrev pub Applies : List ℕ → Refusal → Type 0
+Applies bytes TooShort = length bytes < 8
+Applies bytes Edition = headerBytes bytes .edition ≡ 1 → ⊥
+Applies bytes Shape = ShapeKept (headerBytes bytes) → ⊥
+Applies bytes StartCode = 1 < headerBytes bytes .start
+Applies bytes NodeCount = (1 ≤ nodesSaid bytes) × (nodesSaid bytes ≤ mostNodes) → ⊥
+Applies bytes EntryNode = nodesSaid bytes ≤ headerBytes bytes .entry
+Applies bytes SpareBits = (headerBytes bytes .«first_spare» ≡ 0) × (headerBytes bytes .«second_spare» ≡ 0) → ⊥
+Applies bytes Length = length bytes ≡ 8 + 8 * nodesSaid bytes → ⊥
+Applies bytes (BrokenRecord n) = FirstBroken bytes n
+Applies bytes (TooManyBlocks n) = FirstOver bytes n
+Applies bytes ShortBuffer = ⊥
+Applies bytes Unsettled = ⊥
+Applies bytes NotPassing = ⊥
+Applies bytes BoundsLength = ⊥
+Applies bytes Costs = ⊥
+Applies bytes (FloorAboveCeiling n) = ⊥
+Applies bytes (FloorAtUnmarked n) = ⊥

@@ -1,0 +1,41 @@
+-- What accepted bytes say, as statements: the header, what each node touches and where its arrows lead, byte by byte, and which blocks the
+-- chart has, and their sets. Document 01, "What a chart carries". Analysis and plain machine both go by a chart's touches, blocks and sets, so
+-- neither would notice a wrong one; this would.
+use Prim.Native.Nat.{ℕ, _/_, _%_, _^_, _<_}
+use mathlib.Core.Bool.{true, false}
+use mathlib.Core.List.{List, [], _∷_}
+use mathlib.Core.Path.{_≡_}
+use Rattle.blocks.specs.Exactly.{Exactly}
+use Rattle.chart.specs.declared.headers.Header.{Header}
+use Rattle.chart.specs.declared.headers.Start.the-variants.{Unknown, Empty}
+use Rattle.chart.specs.declared.headers.HeaderFields.{HeaderFields}
+use Rattle.chart.specs.declared.records.RecordFields.{RecordFields}
+use Rattle.chart.specs.Geometry.{setOf}
+use Rattle.chart.specs.Record.{Touch, blocksOf}
+use Rattle.chart.specs.Chart.{Chart, touches, arrows}
+use Rattle.chart.specs.Bytes.{headerBytes, recordBytes}
+
+pub record HeaderSays (fields : HeaderFields) (header : Header) : Type 0 where
+  pub line : header .geometry .line ≡ fields .line
+  pub sets : header .geometry .sets ≡ fields .sets
+  pub ways : header .geometry .ways ≡ fields .ways
+  pub unknown : fields .start ≡ 0 → header .start ≡ Unknown
+  pub empty : fields .start ≡ 1 → header .start ≡ Empty
+  pub nodes : header .nodes ≡ fields .nodes
+  pub entry : header .entry ≡ fields .entry
+
+-- Kind 0 is a bare step, 1 a read, 2 a write; "block = address / 2^L, rounded down"; the arrows out, the first first.
+pub record NodeSays (fields : RecordFields) (line : ℕ) (touched : List Touch) (leads : List ℕ) : Type 0 where
+  pub step : fields .kind ≡ 0 → touched ≡ []
+  pub read : fields .kind ≡ 1 → touched ≡ record { block = fields .address / 2 ^ line; write = false } ∷ []
+  pub write : fields .kind ≡ 2 → touched ≡ record { block = fields .address / 2 ^ line; write = true } ∷ []
+  pub no-arrow : fields .outs ≡ 0 → leads ≡ []
+  pub one-arrow : fields .outs ≡ 1 → leads ≡ fields .first ∷ []
+  pub two-arrows : fields .outs ≡ 2 → leads ≡ fields .first ∷ fields .second ∷ []
+
+pub record Says (bytes : List ℕ) (chart : Chart) : Type 0 where
+  pub header : HeaderSays (headerBytes bytes) (chart .header)
+  pub nodes : (n : ℕ) → n < chart .header .nodes → NodeSays (recordBytes bytes n) (chart .header .geometry .line) (touches chart n) (arrows chart n)
+  pub blocks : Exactly (λ n. blocksOf (touches chart n)) (chart .header .nodes) (chart .blocks)
+  -- "set = block mod 2^S"
+  pub sets : (block : ℕ) → setOf (chart .header .geometry) block ≡ block % 2 ^ headerBytes bytes .sets

@@ -1,0 +1,25 @@
+// The demands and the soundings, each claimed by a function whose promise is the claim itself: without its proof this program is not built.
+ghost use Rattle.demands.specs.Demand1.{Demand1};
+ghost use Rattle.demands.specs.Demand2.{Demand2};
+ghost use Rattle.demands.specs.Demand3.{Demand3};
+ghost use Rattle.demands.specs.Sounded.{Sounded};
+
+// Any bytes and any buffer lengths get an answer or a numbered refusal.
+pub(crate) fn asked_anything()
+    ensures { λ _. ⌜ Demand1 ⌝ }
+{}
+
+// The checker passes what meets the equations, and the analysis leaves the tightest table that passes.
+pub(crate) fn says_most()
+    ensures { λ _. ⌜ Demand2 ⌝ }
+{}
+
+// What a class calls a hit hits, what it calls a miss misses, and the cost lies between the totals.
+pub(crate) fn says_so()
+    ensures { λ _. ⌜ Demand3 ⌝ }
+{}
+
+// The definitions give what the soundings want.
+pub(crate) fn sounded()
+    ensures { λ _. ⌜ Sounded ⌝ }
+{}

@@ -1,0 +1,48 @@
+//! So that what is drawn is not idle: how many nodes of random charts are reached, and that an edge is one.
+
+use charts::random::Random;
+use charts::random_charts::whole;
+use charts::random_edges::{at_an_edge, EDGES};
+use second::chart::Chart;
+use second::lending::Lending;
+use second::limits::{BLOCKS, PASSES};
+use std::collections::BTreeMap;
+
+/// How many nodes of an accepted chart are reached.
+fn reached(bytes: &[u8], chart: &Chart) -> usize {
+    let mut lending = Lending::of(chart.blocks.len(), chart.nodes.len(), 0);
+    lending.analyse(bytes, PASSES);
+    lending.marks.iter().filter(|&&mark| mark == 1).count()
+}
+
+#[test]
+fn most_nodes_are_reached() {
+    let mut random = Random::new(1);
+    let (mut nodes, mut marked) = (0, 0);
+    for _ in 0..2_000 {
+        let bytes = whole(&mut random).bytes();
+        let Ok(chart) = Chart::read(&bytes) else { continue };
+        nodes += chart.nodes.len();
+        marked += reached(&bytes, &chart);
+    }
+    assert!(10 * marked >= 7 * nodes, "{marked} of {nodes} nodes are reached");
+}
+
+#[test]
+fn charts_at_an_edge_have_just_so_many_blocks() {
+    let mut random = Random::new(2);
+    let mut times = BTreeMap::new();
+    for _ in 0..2_000 {
+        let bytes = at_an_edge(&mut random).bytes();
+        let blocks = match Chart::read(&bytes) {
+            Ok(chart) => chart.blocks.len(),
+            Err(refusal) => {
+                assert_eq!(refusal.number, 10);
+                BLOCKS + 1
+            }
+        };
+        *times.entry(blocks as u64).or_insert(0) += 1;
+    }
+    assert_eq!(times.keys().copied().collect::<Vec<u64>>(), EDGES);
+    assert!(times.values().all(|&times| times >= 50), "{times:?}");
+}

@@ -1,10 +1,9 @@
 -- Words read by widths and bytes read one by one say the same.
-use Prim.Native.Nat.{ℕ, suc, _+_, _*_, _/_, _%_, _^_, _<_}
+use Prim.Native.Nat.{ℕ, _+_, _*_, _/_, _%_, _<_}
 use mathlib.Core.List.{List}
-use mathlib.Core.Path.{_≡_, refl, sym, ap, _∙_}
+use mathlib.Core.Path.{_≡_}
 use native.Mathlib.Omega.{arith}
 use lib.ListN.{getD}
-use Rattle.chart.specs.declared.headers.HeaderFields.{HeaderFields}
 use Rattle.chart.specs.declared.records.RecordFields.{RecordFields}
 use Rattle.chart.specs.Layout.{wordAt}
 use Rattle.chart.specs.Header.{headerFields, fieldsIn}

@@ -1,16 +1,16 @@
 -- The reader's tests tell when each of refusals 1 to 10 applies.
 use Prim.Native.Nat.{ℕ, zero, suc, _+_, _*_, _-_, _/_, _^_, _≤_, _<_}
-use mathlib.Core.Bool.{Bool, true, false, cond, not, _&&_, _||_}
+use mathlib.Core.Bool.{Bool, true, false, cond, not, _&&_}
 use mathlib.Core.List.{List, [], _∷_}
-use mathlib.Core.Logic.{_⊎_, inl, inr}
+use mathlib.Core.Logic.{inl, inr}
 use mathlib.Core.Path.{_≡_, refl, sym, ap, subst, _∙_}
 use native.Mathlib.Omega.{arith}
 use borrow.Author.Tests.{ltb-true, ltb-false, not-true, not-false, lt-ltb, le-ltb}
 use lib.Dec.{ltb, leb, eqb}
 use lib.ListN.{length}
-use Rattle.lists.specs.Choice.{FirstApplies, NoneApplies, first}
+use Rattle.lists.specs.Choice.{FirstApplies, first}
 use Rattle.lists.specs.Telling.{Tells, AllTell, Numbered, Answered}
-use Rattle.lists.proofs.Choice.{first-applies, applies-first, none-applies, first-otherwise, none-passes}
+use Rattle.lists.proofs.Choice.{first-applies, applies-first, none-applies, first-otherwise}
 use Rattle.lists.proofs.Firsts.{first-test, first-fails, first-is}
 use Rattle.blocks.specs.Blocks.{gathered, overfull}
 use Rattle.chart.specs.declared.records.Record.the-variants.{Step, Reference}

@@ -1,6 +1,6 @@
 -- An accepted chart is the one that its bytes say.
 use Prim.Native.Nat.{ℕ, _/_, _%_, _^_}
-use mathlib.Core.Bool.{Bool, true, false, cond}
+use mathlib.Core.Bool.{true, false, cond}
 use mathlib.Core.List.{List, [], _∷_}
 use mathlib.Core.Path.{_≡_, refl, sym, ap, subst, _∙_}
 use native.Mathlib.Omega.{arith}
@@ -12,10 +12,10 @@ use Rattle.chart.specs.declared.records.RecordFields.{RecordFields}
 use Rattle.chart.specs.declared.shape.Geometry.{Geometry}
 use Rattle.chart.specs.Geometry.{blockOf, setOf}
 use Rattle.chart.specs.Header.{headerOf, headerIn}
-use Rattle.chart.specs.Record.{recordOf, targetsOf, arrowsOf, Touch, touchesOf, blocksOf}
+use Rattle.chart.specs.Record.{recordOf, targetsOf, arrowsOf, Touch, touchesOf}
 use Rattle.chart.specs.Chart.{Chart, accepted, recordsIn, blocksAt, chartIn, readChart}
 use Rattle.chart.proofs.Accepted.{accepted-chart}
-use Rattle.chart.specs.Bytes.{AreBytes, headerBytes, recordBytes}
+use Rattle.chart.specs.Bytes.{AreBytes}
 use Rattle.chart.specs.Saying.{HeaderSays, NodeSays, Says}
 use Rattle.blocks.proofs.Exact.{gathered-exactly}
 use Rattle.chart.proofs.Bytes.{header-bytes, record-bytes}

@@ -1,7 +1,7 @@
 -- The starred soundings of document 01, "Soundings on both sides of the mark", as one list: what the definitions give, and what the
 -- paper says.
 use Prim.Native.Nat.{ℕ}
-use mathlib.Core.List.{List, [], _∷_, _++_, map}
+use mathlib.Core.List.{List, [], _∷_, _++_}
 use lib.ListN.{replicate}
 use Rattle.lists.specs.Soundings.{Sounding, _reads_}
 use Rattle.chart.specs.Geometry.{allPasses}

@@ -72,9 +72,9 @@ enum {
 
 /* The header that veilbuzz_read tells: six numbers, in these places of `header`. A longer one keeps its tail. */
 enum {
-    VEILBUZZ_HEADER_LINE_BITS = 0, /* L: a line is 2^L bytes */
-    VEILBUZZ_HEADER_SET_BITS = 1,  /* S: there are 2^S sets */
-    VEILBUZZ_HEADER_WAYS = 2,      /* A: ways in a set */
+    VEILBUZZ_HEADER_LINE_BITS = 0, /* L: a line has 2^L bytes */
+    VEILBUZZ_HEADER_SET_BITS = 1,  /* S: the cache has 2^S sets */
+    VEILBUZZ_HEADER_WAYS = 2,      /* A: a set has A ways */
     VEILBUZZ_HEADER_START = 3,     /* VEILBUZZ_START_UNKNOWN or VEILBUZZ_START_EMPTY */
     VEILBUZZ_HEADER_NODES = 4,     /* N */
     VEILBUZZ_HEADER_ENTRY = 5,     /* the entry node */
@@ -97,10 +97,10 @@ enum {
     VEILBUZZ_CLASS_NONE = 4       /* a bare step: there is no reference */
 };
 
-/* The refusals, looked for in this order; the first that applies is given. Only whether `answer` and `header` are too short is looked at
- * before all others.
+/* The refusals, rules 11.1 to 11.17 of docs/RULES.md, looked for one after another as they stand here; what is found first is given. Only
+ * whether `answer` and `header` are too short is looked at before all others. Where several nodes are at fault, the first one is told.
  *
- *   no.  exactly when                                           place        what to do
+ *   no.  given if                                               place        what to do
  *    1   the chart has fewer than 8 bytes                       0            give the whole file
  *    2   its edition is not 1                                   0            the first byte has to be 01
  *    3   L not 2 to 8, S not 0 to 8, or A not 1 to 8            0            look at the cache's shape
@@ -109,17 +109,17 @@ enum {
  *    6   its entry is not below N                               0            name a node that there is
  *    7   a spare bit of the header is set                       0            clear it
  *    8   it is not 8 + 8 N bytes long                           0            cut it, or add the missing records
- *    9   a record breaks its rules                              first such   mend that node's record
+ *    9   a record is not as rules 2.1 to 2.6 have it            that node    mend that node's record
  *   10   it has more blocks than VEILBUZZ_MOST_BLOCKS: the      that node    split the chart
  *        node, in node order, that brings the first too many
- *   11   a buffer is shorter than used, floors and ceilings     0            lend N, B or N * B elements, as said below, and
- *        apart                                                               the lengths named above for `answer` and `header`
- *   12   not settled within the allowance                       0            allow VEILBUZZ_ENOUGH_PASSES
+ *   11   a buffer has fewer places than are used, and is        0            lend N, B or N * B elements, as said below, and
+ *        neither floors nor ceilings                                         the lengths named above for `answer` and `header`
+ *   12   every pass of the allowance has changed something      0            allow VEILBUZZ_ENOUGH_PASSES
  *   13   the table does not pass                                0            lend the one that veilbuzz_analyse wrote
- *   14   floors or ceilings are not exactly N long              0            one number for each node
+ *   14   there are not just N floors, or not just N ceilings    0            one number for each node
  *   15   the miss cost is below the hit cost                    0            swap them, if they were swapped
- *   16   a floor is above its ceiling                           first such   mend that node's two bounds
- *   17   a floor is above 0 at an unmarked node                 first such   no walk comes there: make it 0
+ *   16   a floor is above its ceiling                           that node    mend that node's two bounds
+ *   17   a floor above 0 stands at a node without a mark        that node    no walk comes there: make it 0
  */
 
 /* Reads a chart, as a caller does first who wants to know N and B: refusals 1 to 10, and 11 for `header` and `answer`. Where none of them
@@ -134,7 +134,7 @@ uint64_t veilbuzz_read(const uint8_t *chart, size_t chart_length,
  *          age is 0 for the youngest, A for a block that is not there; the rows of unmarked nodes are 0
  *   N      of `marks`: 1 where a walk comes, else 0
  *   N      of `classes`: see above
- * Marks and ages are the tightest table of all that pass document 01's equations, and passes are made and counted as it says.
+ * Marks and ages are the tightest of all tables that pass (rules 7.7 and 7.8), and passes are made and counted by rules 9.1 to 9.5.
  * Longer buffers keep their tails, and what these held before does not matter. After refusals 1 to 11 none of the five has changed. After
  * 12 the blocks are written and the other used parts are 0, which then says nothing of the chart. */
 uint64_t veilbuzz_analyse(const uint8_t *chart, size_t chart_length,
@@ -146,20 +146,21 @@ uint64_t veilbuzz_analyse(const uint8_t *chart, size_t chart_length,
                           uint8_t *classes, size_t classes_length,
                           uint64_t *answer, size_t answer_length);
 
-/* Says whether a table passes document 01's equations, whoever made it: refusals 1 to 11. What it returns is 0 for a table that passes
- * and for one that does not: answer[VEILBUZZ_CHECK_YES] alone tells them apart. Only the first N * B of `must` and `may` and the first
- * N of `marks` matter, laid out as above. It writes `answer` alone. */
+/* Says whether a table passes (rule 7.7), whoever made it: refusals 1 to 11. What it returns is 0 for a table that passes and for one
+ * that does not: answer[VEILBUZZ_CHECK_YES] alone tells them apart. Only the first N * B of `must` and `may` and the first N of `marks`
+ * matter, laid out as above. It writes `answer` alone. */
 uint64_t veilbuzz_check(const uint8_t *chart, size_t chart_length,
                         const uint8_t *must, size_t must_length,
                         const uint8_t *may, size_t may_length,
                         const uint8_t *marks, size_t marks_length,
                         uint64_t *answer, size_t answer_length);
 
-/* The two totals of a table that passes: refusals 1 to 11 and 13 to 17. Over the references of marked nodes, the high total adds ceiling
- * times `hit` for class hit, else ceiling times `miss`; the low total adds floor times `miss` for class miss, else floor times `hit`. So
- * take a walk from the chart's entry and start that comes to each node no fewer times than its floor and no more than its ceiling, and
- * pays `hit` for each hit, `miss` for each miss and nothing at a bare step: what it costs lies between the low and the high total, both
- * included. The table is read as veilbuzz_check reads it. It writes `answer` alone. */
+/* The two totals of a table that passes: refusals 1 to 11 and 13 to 17. They are sums over the references of marked nodes (rules 10.2 and
+ * 10.3): the high one of ceilings, each times `hit` where the class is hit and times `miss` where it is not; the low one of floors, each
+ * times `miss` where the class is miss and times `hit` where it is not. So take a walk from the chart's entry and start that comes to each
+ * node no fewer times than its floor and no more than its ceiling, and pays `hit` for each hit, `miss` for each miss and nothing at a bare
+ * step: what it costs lies between the low and the high total, both included. The table is read as veilbuzz_check reads it. It writes
+ * `answer` alone. */
 uint64_t veilbuzz_total(const uint8_t *chart, size_t chart_length,
                         const uint8_t *must, size_t must_length,
                         const uint8_t *may, size_t may_length,

@@ -13,7 +13,7 @@ pub struct Table<'a> {
     pub marks: &'a [u8],
 }
 
-/// Whether a table passes document 01's equations, or one of refusals 1 to 11.
+/// Whether a table passes (rule 7.7), or one of refusals 1 to 11.
 pub fn check(chart: &[u8], table: Table) -> Result<bool, Refusal> {
     // each pointer and its length are one slice's; of these nothing is written
     let answer = Answer::<{ raw::CHECK_LENGTH }>::of(|answer, length| unsafe {

@@ -1,6 +1,6 @@
 use std::fmt;
 
-/// What is known of a node. The numbers and the words are document 01's.
+/// What is known of a node. The numbers are those of rule 8.1, the words those of rule 14.2.
 #[derive(Clone, Copy, Debug, PartialEq, Eq)]
 pub enum Class {
     /// No walk comes here.

@@ -1,7 +1,7 @@
 //! Veilbuzz for Rust: does a memory reference always hit the cache, always miss, or can it not be told?
 //!
 //! This is a thin and safe cover over the C functions of `include/veilbuzz.h`. The source of those is proved: for any bytes and any lengths
-//! each gives the answer that document 01 defines, writes only what is said here, and ends. The cover itself is ordinary Rust.
+//! each gives the answer that the rules (docs/RULES.md) define, writes only what is said here, and ends. The cover itself is ordinary Rust.
 //!
 //! [`Analysis::of`] is the short way, with buffers of its own. [`read`], [`analyse`], [`check`] and [`total`] are the four functions with
 //! buffers that the caller lends. `examples/loop.rs` is a whole program.

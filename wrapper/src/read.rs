@@ -14,18 +14,18 @@ pub enum Start {
 /// What a chart's header says, and the number of blocks that its records have.
 #[derive(Clone, Copy, Debug, PartialEq, Eq)]
 pub struct Header {
-    /// L: a line is 2^L bytes.
+    /// L: a line has 2^L bytes.
     pub line: usize,
-    /// S: there are 2^S sets.
+    /// S: the cache has 2^S sets.
     pub sets: usize,
-    /// A: ways in a set.
+    /// A: a set has A ways.
     pub ways: usize,
     pub start: Start,
     /// N.
     pub nodes: usize,
     /// The node that every walk begins at.
     pub entry: usize,
-    /// B: the distinct blocks of all references.
+    /// B: how many blocks the references touch.
     pub blocks: usize,
 }
 

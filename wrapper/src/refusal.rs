@@ -2,7 +2,7 @@ use crate::{BLOCKS, NODES, PASSES};
 use std::error::Error;
 use std::fmt;
 
-/// A row of document 01's table "When the tool says no". The text of it says what was found and what to do.
+/// A refusal, one of rules 11.1 to 11.17. Its text says what was found and what to do.
 #[derive(Clone, Copy, Debug, PartialEq, Eq)]
 pub struct Refusal {
     /// 1 to 17.
@@ -38,13 +38,13 @@ const WORDS: [[&str; 2]; 17] = [
         "a lent buffer is shorter than used",
         "lend N, B or N * B elements, as the function says",
     ],
-    ["not settled within the passes allowed", "allow PASSES passes"],
+    ["the passes that were allowed are too few", "allow PASSES passes"],
     ["the table does not pass", "lend the one that the analysis wrote"],
     ["floors or ceilings are not N long", "one number for each node"],
     ["the miss cost is below the hit cost", "swap them, if they were swapped"],
     ["a floor is above its ceiling", "mend that node's two bounds"],
     [
-        "a floor is above 0 at an unmarked node",
+        "a floor above 0 stands at a node without a mark",
         "no walk comes there: make it 0",
     ],
 ];

@@ -1,4 +1,4 @@
-//! The example is built and run, and prints document 01's report and totals.
+//! The example is built and run, and prints the loop's report and totals (sections 14 and 10 of the rules).
 
 use std::process::Command;
 

@@ -18,7 +18,7 @@ fn a_refusal_says_its_number_its_place_what_was_found_and_what_to_do() {
     );
     assert_eq!(
         refusal(17, 5),
-        "refused 17 at 5: a floor is above 0 at an unmarked node (no walk comes there: make it 0)"
+        "refused 17 at 5: a floor above 0 stands at a node without a mark (no walk comes there: make it 0)"
     );
 }
 

@@ -1,15 +1,16 @@
 -- The flow of a sound plan's ages keeps the laws of flows, and its states have a height.
 use mathlib.Core.Path.{_≡_}
-use Prim.Native.Nat.{ℕ, suc, _+_, _*_, _≤_, _<_}
+use Prim.Native.Nat.{ℕ, _*_}
 use native.Mathlib.Omega.{arith}
-use lib.ListN.{getD}
 use Rattle.cache.specs.Ages.{Within}
 use Rattle.cache.proofs.Rows.{same-ages}
 use Rattle.cache.proofs.Order.{tighter-refl, tighter-trans, tighter-both}
 use Rattle.cache.proofs.Meeting.{meet-within, meet-left, meet-right, meet-least, start-within}
-use Rattle.cache.proofs.Heights.{height, height-most, height-grows}
+use Rattle.cache.specs.Laws.{height}
+use Rattle.cache.proofs.Heights.{height-most, height-grows}
 use Rattle.flow.specs.Laws.{Laws, Height}
 use Rattle.ages.specs.Plan.{Plan, columnsOf, planFlow, Sound}
+use Rattle.ages.specs.Limits.{LimitsWithin}
 use Rattle.ages.proofs.Stepping.{step-within, step-monotone}
 
 module _ (plan : Plan) (sound : Sound plan) where
@@ -32,11 +33,6 @@ module _ (plan : Plan) (sound : Sound plan) where
         monotone = λ n a b h r o t. step-monotone plan sound n h a b o t;
         same-yes = same-ages;
       }
-
--- No limit of a plan's columns is above `most`.
-abbrev pub LimitsWithin : Plan → ℕ → Type 0
-LimitsWithin plan most =
-    (column : ℕ) → column < plan .blocks → (getD (plan .mustLimits) column 0 ≤ most) × (getD (plan .mayLimits) column 0 ≤ most)
 
 module _ (plan : Plan) (sound : Sound plan) (most : ℕ) (limits : LimitsWithin plan most) where
   unfoldable pub agesHeight : Height (planFlow plan) (agesLaws plan sound)

@@ -16,15 +16,14 @@ use Rattle.lists.proofs.Firsts.{first-test, first-fails, first-within}
 use Rattle.lists.proofs.Orders.{below-or}
 use Rattle.chart.specs.Record.{Touch}
 use Rattle.chart.specs.Chart.{Chart, accepted, readChart, arrows, touches, blockCount}
-use Rattle.chart.proofs.Rules.{leads-in}
+use Rattle.chart.proofs.Allowed.{leads-in}
 use Rattle.chart.proofs.Accepted.{accepted-entry, accepted-arrows, accepted-column}
 use Rattle.cache.specs.Ages.{Ages}
 use Rattle.flow.specs.Walk.{Onward, Reached, inTurn}
 use Rattle.ages.specs.declared.ColumnTouch.{ColumnTouch}
-use Rattle.ages.specs.Plan.{PlanNode, Plan, nothing, columnsOf, touchesIn, arrowsIn, touched, planFlow, Sound}
+use Rattle.ages.specs.Plan.{PlanNode, Plan, nothing, columnsOf, touchesIn, arrowsIn, afterTouch, planFlow, Sound}
 use Rattle.ages.specs.Charted.{columnOf, blockAt, setAt, keyAt, columnTouch, nodePlan, planOf, touchedBy, mostPasses}
-use Rattle.ages.proofs.Ageing.{LimitsWithin}
-use Rattle.ages.proofs.Settled.{enoughFor}
+use Rattle.ages.specs.Limits.{LimitsWithin, enoughFor}
 
 -- ---- touches that stand for others
 
@@ -56,8 +55,8 @@ module _ (chart : Chart) where
   -- The step of a node is its touches of blocks, in turn.
   pub step-touches : (n : ℕ) → n < chart .header .nodes → (a : Ages) → planFlow plan .step n a ≡ inTurn (touchedBy chart) (touches chart n) a
   step-touches n h a =
-      ap (λ (ts : List ColumnTouch). inTurn (touched plan) ts a) (touches-planned n h)
-      ∙ turns-mapped (columnTouch chart) (touched plan) (touches chart n) a
+      ap (λ (ts : List ColumnTouch). inTurn (afterTouch plan) ts a) (touches-planned n h)
+      ∙ turns-mapped (columnTouch chart) (afterTouch plan) (touches chart n) a
 
   -- ---- columns
 

@@ -1,8 +1,8 @@
--- A plan: what ages, tables, classes and totals need of a chart, worked out once. A block is known by its column, its place in the chart's
--- list of blocks; nothing here knows of L, S or A, or of bytes. And the flow of a plan's ages: what passes, checker and totals work on.
--- Document 01, "Ages and equations".
+-- A plan: what ages, tables, classes and totals need of a chart, worked out once. A block is known by its column, its place in the chart's list of
+-- blocks; nothing here knows of L, S or A, or of bytes. And the flow of a plan's ages: what passes, checker and totals work on. Rules 2.8, 6.5 and
+-- 6.7, and by `flowBy` rules 6.6, 7.3, 7.5, 7.6, 7.8 and 9.4. A choice: past the last node nothing is touched and no arrow leads out.
 use Prim.Native.Nat.{ℕ, _<_}
-use mathlib.Core.Bool.{Bool, false}
+use mathlib.Core.Bool.{Bool}
 use mathlib.Core.List.{List, []}
 use mathlib.Core.Path.{_≡_}
 use lib.ListN.{getD}
@@ -18,7 +18,7 @@ pub record PlanNode : Type 0 where
   pub arrows : List ℕ
 
 pub record Plan : Type 0 where
-  -- document 01's N, its B, the entry, and whether the start is "empty"
+  -- N, B, the entry, and whether the start is empty
   pub nodes : ℕ
   pub blocks : ℕ
   pub entry : ℕ
@@ -30,6 +30,7 @@ pub record Plan : Type 0 where
   -- what each node does
   pub steps : List PlanNode
 
+-- The columns of a plan.
 abbrev pub columnsOf : Plan → Columns
 columnsOf plan =
     record {
@@ -49,14 +50,15 @@ touchesIn plan n = getD (plan .steps) n nothing .touches
 abbrev pub arrowsIn : Plan → ℕ → List ℕ
 arrowsIn plan n = getD (plan .steps) n nothing .arrows
 
--- The ages after a touch of one of some columns. A write acts as a read does: "A write is treated as a read".
+-- Rule 2.8: the ages after a touch of one of some columns, in which the flag of a write is not looked at.
 abbrev pub touchColumn : Columns → ColumnTouch → Ages → Ages
 touchColumn columns touch a = touchAges columns (touch .column) a
 
-abbrev pub touched : Plan → ColumnTouch → Ages → Ages
-touched plan touch a = touchColumn (columnsOf plan) touch a
+abbrev pub afterTouch : Plan → ColumnTouch → Ages → Ages
+afterTouch plan touch a = touchColumn (columnsOf plan) touch a
 
--- Ages that start and step so, met and compared over the plan's columns.
+-- Ages that start and step so. Which states meet how is rule 6.6 (`meet`), what is a change rule 9.4 (`same`), what an age may be rule 7.3 (`Ok`),
+-- and which of two states allows more is as in rules 7.5, 7.6 and 7.8 (`Below`): the definitions of `cache` over the plan's columns.
 abbrev pub flowBy : Plan → Ages → (ℕ → Ages → Ages) → Flow
 flowBy plan start step =
     record {
@@ -72,14 +74,14 @@ flowBy plan start step =
       Below = Tighter (columnsOf plan);
     }
 
--- The state after a node's record: its touches in turn; "Bare step: nothing changes." "The entry also meets the start": before pass one
--- it has the start, and what its arrows bring is met into that.
+-- Rule 6.5: a step is a node's touches in turn, so that a bare step, which has none, changes no age. Rule 6.7: the entry has the start before
+-- the first pass, and what arrows bring is met into that.
 abbrev pub planFlow : Plan → Flow
 planFlow plan =
-    flowBy plan (startAges (columnsOf plan) (plan .empty)) (λ n a. inTurn (touched plan) (touchesIn plan n) a)
+    flowBy plan (startAges (columnsOf plan) (plan .empty)) (λ n a. inTurn (afterTouch plan) (touchesIn plan n) a)
 
 -- A plan that holds together: the entry is a node, arrows lead to nodes, what is touched has a column, and the columns of one set have one
--- must limit. Nothing of this is document 01's; the plan of every accepted chart is such a plan.
+-- must limit. This is no rule of the tool: laws of plans ask for it, and the plan of every accepted chart is such a plan.
 pub record Sound (plan : Plan) : Type 0 where
   pub entry-in : plan .entry < plan .nodes
   pub arrows-in : (n t : ℕ) → n < plan .nodes → Among t (arrowsIn plan n) → t < plan .nodes

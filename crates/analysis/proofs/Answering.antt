@@ -8,7 +8,7 @@ use Rattle.lists.specs.Loops.{patch}
 use Rattle.refusals.specs.declared.Refusal.the-variants.{ShortBuffer}
 use Rattle.chart.specs.declared.headers.Header.{Header}
 use Rattle.chart.specs.Chart.{Chart, chartIn}
-use Rattle.chart.specs.Inner.{Found}
+use Rattle.chart.specs.Inner.{AcceptedAs}
 use Rattle.flow.specs.Pass.{settle}
 use Rattle.ages.specs.Plan.{Plan, planFlow}
 use Rattle.ages.specs.Charted.{planOf}
@@ -22,7 +22,7 @@ use Rattle.analysis.specs.Inner.{sized, buffersBy, Finishes}
 use Rattle.analysis.proofs.Room.{room-parts, table-room}
 use Rattle.analysis.proofs.Finishing.{blocks-written}
 
-module _ (bytes columns plan : List ℕ) (draws : Draws bytes columns plan) (header : Header) (count : ℕ) (list : List ℕ) (found : Found bytes header count list)
+module _ (bytes columns plan : List ℕ) (draws : Draws bytes columns plan) (header : Header) (count : ℕ) (list : List ℕ) (found : AcceptedAs bytes header count list)
     (allowance : ℕ) (buffers : Buffers) where
   abbrev chart : Chart
   chart = chartIn bytes
@@ -58,10 +58,10 @@ module _ (bytes columns plan : List ℕ) (draws : Draws bytes columns plan) (hea
       pub classes-room : nodesIn plan ≤ length (buffers .classes)
       classes-room = room-parts (planIn columns plan) buffers (sym tells ∙ is) .1 .1
 
-      pub answered : (blocks : List ℕ) → blocks ≡ patch (buffers .blocks) 0 count (λ k. getD list k 0)
+      pub finishes-analysed : (blocks : List ℕ) → blocks ≡ patch (buffers .blocks) 0 count (λ k. getD list k 0)
           → (answer : Analysed) (left : Lent) (classes : List ℕ) → Finishes (planIn columns plan) allowance (tableIn buffers) (buffers .classes) answer left classes
           → record { answer = answer; buffers = buffersBy blocks left classes } ≡ analysed bytes allowance buffers
-      answered blocks e answer left classes finishes =
+      finishes-analysed blocks e answer left classes finishes =
           (λ i. record {
             answer = answer;
             buffers = buffersBy

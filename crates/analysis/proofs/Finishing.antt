@@ -16,10 +16,10 @@ use Rattle.ages.specs.Plan.{Plan, planFlow}
 use Rattle.classes.specs.Class.{tableClasses}
 use Rattle.tables.specs.Lent.{Lent, tableOf, over}
 use Rattle.tables.proofs.Laid.{zeros-over, table-over, over-over}
-use Rattle.tables.proofs.Shaping.{blanks-shaped, before-shaped, afterPasses-shaped}
-use Rattle.passes.specs.declared.settling.Settling.{Settling}
-use Rattle.passes.specs.declared.settling.Settling.the-variants.{Settled, Spent}
-use Rattle.passes.specs.Inner.{Begun, SettledIn}
+use Rattle.tables.proofs.Fitting.{blanks-fit, before-fits, afterPasses-fits}
+use Rattle.settling.specs.declared.settling.Settling.{Settling}
+use Rattle.settling.specs.declared.settling.Settling.the-variants.{Settled, Spent}
+use Rattle.settling.specs.Inner.{Begun, SettledIn}
 use Rattle.analysis.specs.declared.Analysed.the-variants as Answer
 use Rattle.analysis.specs.Analysis.{classesUsed, finish}
 use Rattle.analysis.specs.Inner.{blankOver, buffersBy, Finishes}
@@ -37,14 +37,14 @@ blocks-written list array blocks is room =
 module _ (plan : Plan) (lent begin : Lent) (begins : begin ≡ over plan (before (planFlow plan)) lent) where
   pub started-begun : Begun plan begin
   started-begun =
-      begins ∙ sym (ap (over plan (before (planFlow plan))) begins ∙ over-over plan (before-shaped plan) (before-shaped plan) lent)
+      begins ∙ sym (ap (over plan (before (planFlow plan))) begins ∙ over-over plan (before-fits plan) (before-fits plan) lent)
 
   module _ (allowance : ℕ) (classes : List ℕ) (settling : Settling) (left : Lent) (done : SettledIn plan allowance begin settling left)
       (count : ℕ) (count-is : count ≡ plan .blocks) where
     -- What is laid over the table that passes began with is laid over what was lent.
     left-over : (passes : ℕ) → left ≡ over plan (afterPasses (planFlow plan) passes) begin → left ≡ over plan (afterPasses (planFlow plan) passes) lent
     left-over passes e =
-        e ∙ ap (over plan (afterPasses (planFlow plan) passes)) begins ∙ over-over plan (before-shaped plan) (afterPasses-shaped plan passes) lent
+        e ∙ ap (over plan (afterPasses (planFlow plan) passes)) begins ∙ over-over plan (before-fits plan) (afterPasses-fits plan passes) lent
 
     -- A table that settled, and its classes.
     pub settled-left : (passes : ℕ) → settling ≡ Settled passes
@@ -54,7 +54,7 @@ module _ (plan : Plan) (lent begin : Lent) (begins : begin ≡ over plan (before
     settled-left passes is told e list blocks =
         let made = subst (λ (r : Settling). SettledIn plan allowance begin r left) is done in
         let laid = left-over passes (made .table) in
-        let table : tableOf plan left ≡ afterPasses (planFlow plan) passes = ap (tableOf plan) laid ∙ table-over plan (afterPasses-shaped plan passes) lent in
+        let table : tableOf plan left ≡ afterPasses (planFlow plan) passes = ap (tableOf plan) laid ∙ table-over plan (afterPasses-fits plan passes) lent in
         let named : told ≡ written (tableClasses plan (afterPasses (planFlow plan) passes)) classes = e ∙ ap (λ (t : List (Cell Ages)). written (tableClasses plan t) classes) table in
         (λ i. record { answer = Answer.Settled passes (count-is i); buffers = buffersBy (written list blocks) (laid i) (named i) })
         ∙ ap (finish plan list allowance (buffersBy blocks lent classes)) (made .answered)
@@ -67,7 +67,7 @@ module _ (plan : Plan) (lent begin : Lent) (begins : begin ≡ over plan (before
     unfolding finish
     spent-left is room zeros z nodes nodes-are told e list blocks =
         let made = subst (λ (r : Settling). SettledIn plan allowance begin r left) is done in
-        let over-lent : zeros ≡ blankOver plan lent = z ∙ ap (blankOver plan) (left-over allowance (made .table)) ∙ over-over plan (afterPasses-shaped plan allowance) (blanks-shaped plan) lent in
+        let over-lent : zeros ≡ blankOver plan lent = z ∙ ap (blankOver plan) (left-over allowance (made .table)) ∙ over-over plan (afterPasses-fits plan allowance) (blanks-fit plan) lent in
         let named : told ≡ written (replicate (classesUsed plan) zero) classes = e ∙ ap (λ (n : ℕ). patch classes 0 n (λ j. 0)) nodes-are ∙ zeros-written classes (classesUsed plan) room in
         (λ i. record { answer = Answer.Unsettled allowance (count-is i); buffers = buffersBy (written list blocks) (over-lent i) (named i) })
         ∙ (λ i. record {

@@ -19,7 +19,7 @@ use Rattle.rows.specs.Rows.{columnsBy, agesIn, asRow}
 use Rattle.tables.specs.Lent.{Lent, agesUsed, marksUsed, over}
 use Rattle.tables.specs.Inner.{LentRun, Roomy, metInto}
 use Rattle.tables.proofs.Laid.{zeros-over}
-use Rattle.tables.proofs.Shaping.{ages-keep, blanks-shaped}
+use Rattle.tables.proofs.Fitting.{ages-fit, blanks-fit}
 use Rattle.tables.proofs.Meeting.{met-laid}
 use Rattle.tables.proofs.After.{start-agrees}
 use Rattle.analysis.specs.Inner.{blankOver}
@@ -29,10 +29,10 @@ use Rattle.analysis.specs.Inner.{blankOver}
 pub zeros-written : (l : List ℕ) (n : ℕ) → n ≤ length l → patch l 0 n (λ j. 0) ≡ written (replicate n zero) l
 zeros-written l n h = patch-written l n (λ j. 0) h ∙ ap (λ (z : List ℕ). written z l) (listOf-const n zero)
 
-pub cleared : (plan : Plan) (lent : Lent) → Roomy (plan .nodes) (plan .blocks) (lent .must) (lent .may) (lent .marks)
+pub cleared-blank : (plan : Plan) (lent : Lent) → Roomy (plan .nodes) (plan .blocks) (lent .must) (lent .may) (lent .marks)
     → record { must = patch (lent .must) 0 (agesUsed plan) (λ j. 0); may = patch (lent .may) 0 (agesUsed plan) (λ j. 0); marks = patch (lent .marks) 0 (marksUsed plan) (λ j. 0) }
     ≡ blankOver plan lent
-cleared plan lent room = λ i. record {
+cleared-blank plan lent room = λ i. record {
   must = (zeros-written (lent .must) (agesUsed plan) (room .must-room) ∙ ap (λ (t : Lent). written (t .must) (lent .must)) (sym (zeros-over plan))) i;
   may = (zeros-written (lent .may) (agesUsed plan) (room .may-room) ∙ ap (λ (t : Lent). written (t .may) (lent .may)) (sym (zeros-over plan))) i;
   marks = (zeros-written (lent .marks) (marksUsed plan) (room .marks-room) ∙ ap (λ (t : Lent). written (t .marks) (lent .marks)) (sym (zeros-over plan))) i;
@@ -52,14 +52,14 @@ module _ (columns plan : List ℕ) (drawn : Drawn columns plan) (lent : Lent) wh
   unfolding put metAt met before
   entry-takes = rw (getD-replicate {A = Cell Ages} (held .nodes) (entryIn plan) blank blank (drawn .sound .entry-in))
 
-  pub started : (blocks entry : ℕ) → blocks ≡ blocksIn plan → entry ≡ entryIn plan
+  pub start-before : (blocks entry : ℕ) → blocks ≡ blocksIn plan → entry ≡ entryIn plan
       → (empty : Bool) → empty ≡ emptyIn plan → (row : Row) → row ≡ asRow (startAges (columnsBy columns mostBlocks) empty)
       → (zeros : Lent) → zeros ≡ blankOver held lent → (left : LentRun) → left ≡ metInto blocks entry (agesIn row) (record { lent = zeros; changed = false })
       → left .lent ≡ over held (before (planFlow held)) lent
-  started blocks entry blocks-are entry-is empty empty-is row row-is zeros zeros-are left left-is =
+  start-before blocks entry blocks-are entry-is empty empty-is row row-is zeros zeros-are left left-is =
       ap (λ (r : LentRun). r .lent)
       (left-is
       ∙ (λ i. metInto (blocks-are i) (entry-is i) (agesIn (row-is i)) (record { lent = zeros-are i; changed = false }))
       ∙ ap (λ (e : Bool). metInto (blocksIn plan) (entryIn plan) (startAges (columnsBy columns mostBlocks) e) (record { lent = blankOver held lent; changed = false })) empty-is
-      ∙ met-laid held lent unmarked (blanks-shaped held) (entryIn plan) (drawn .sound .entry-in) (startAges (columnsBy columns mostBlocks) (emptyIn plan)) (planFlow held .start) (ages-keep held .start) (start-agrees columns plan drawn))
+      ∙ met-laid held lent unmarked (blanks-fit held) (entryIn plan) (drawn .sound .entry-in) (startAges (columnsBy columns mostBlocks) (emptyIn plan)) (planFlow held .start) (ages-fit held .start-fits) (start-agrees columns plan drawn))
       ∙ ap (λ (t : List (Cell Ages)). over held t lent) entry-takes

@@ -1,5 +1,6 @@
--- What the built-in analysis answers and what it leaves in each lent buffer, for any bytes, any allowance and any buffers.
--- Document 01, "When the tool says no", from "The analysis uses 1 to 12" on.
+-- What the analysis answers and what it leaves in each lent buffer, for any bytes, any allowance and any buffers. Rules 11.11, 11.12, 12.2 to 12.4
+-- and 12.8. Refusal 12 is an answer of its own, `Unsettled`, that carries the allowance and B: so what an answer says in numbers follows from the
+-- answer alone. `Refused` never carries it.
 use Prim.Native.Nat.{ℕ}
 use mathlib.Core.Bool.{Bool, _||_}
 use mathlib.Core.List.{List, [], _∷_}
@@ -7,7 +8,7 @@ use lib.ListN.{length, replicate}
 use lib.Dec.{ltb}
 use denote.Ref.{now}
 use Rattle.lists.specs.Slices.{Slice}
-use Rattle.lists.specs.Choice.{_⇒_, firstRule}
+use Rattle.lists.specs.Choice.{_⇒_, firstCase}
 use Rattle.lists.specs.Lists.{written}
 use Rattle.refusals.specs.declared.Refusal.{Refusal}
 use Rattle.refusals.specs.declared.Refusal.the-variants.{ShortBuffer}
@@ -24,7 +25,7 @@ use Rattle.ages.specs.Charted.{planOf, agesFlow}
 use Rattle.classes.specs.Class.{tableClasses}
 use Rattle.tables.specs.Lent.{Lent, agesUsed, marksUsed, tableShort, lentOf}
 
--- The five buffers that the analysis writes to.
+-- Rule 12.2: the five buffers that the analysis writes to.
 pub record Buffers : Type 0 where
   pub blocks : List ℕ
   pub must : List ℕ
@@ -44,13 +45,14 @@ pub record AnalysedSaid : Type 0 where
   pub passes : ℕ
   pub blocks : ℕ
 
--- "Every refusal returns its number and place, with pass count, block count .. 0, save that 12 also returns the allowance and B."
+-- Rules 12.4 and 12.8: pass count and B of an analysis that settles, number and place of a refusal; only 12 has all four.
 abbrev pub analysedSays : Analysed → AnalysedSaid
 analysedSays (Settled passes blocks) = record { number = 0; place = 0; passes = passes; blocks = blocks }
 analysedSays (Unsettled allowance blocks) =
     record { number = numberOf refusals.Unsettled; place = placeOf refusals.Unsettled; passes = allowance; blocks = blocks }
 analysedSays (Refused refusal) = record { number = numberOf refusal; place = placeOf refusal; passes = 0; blocks = 0 }
 
+-- The table in these buffers.
 abbrev pub tableIn : Buffers → Lent
 tableIn buffers = record { must = buffers .must; may = buffers .may; marks = buffers .marks }
 
@@ -80,17 +82,17 @@ abbrev pub exitLeft : Slice → Slice → Slice → Slice → Slice → Analysed
 exitLeft blocks must may marks classes answer =
     record { answer = answer; buffers = exitBuffers blocks must may marks classes }
 
--- "N classes"
+-- Rule 12.2: how many classes are used.
 abbrev pub classesUsed : Plan → ℕ
 classesUsed plan = plan .nodes
 
--- "a lent buffer, floors and ceilings apart, shorter than used"
+-- Rule 11.11, of the five buffers.
 abbrev pub buffersShort : Plan → Buffers → Bool
 buffersShort plan buffers =
     ltb (length (buffers .blocks)) (plan .blocks)
     || (tableShort plan (tableIn buffers) || ltb (length (buffers .classes)) (classesUsed plan))
 
--- "It writes B block numbers, N·B must ages, N·B may ages (row after row), N marks, N classes; longer buffers keep their tails."
+-- Rule 12.2: each used part is written, and what a buffer has beyond it stays.
 abbrev pub fill : List ℕ → Lent → List ℕ → Buffers → Buffers
 fill blocks table classes buffers =
     record {
@@ -101,6 +103,7 @@ fill blocks table classes buffers =
       classes = written classes (buffers .classes);
     }
 
+-- Rule 12.3: the used parts of a table, cleared.
 abbrev pub zeroLent : Plan → Lent
 zeroLent plan =
     record {
@@ -109,15 +112,15 @@ zeroLent plan =
       marks = replicate (marksUsed plan) 0;
     }
 
--- The buffers after an analysis that ended with this table, and after one that did not settle: a plan's table, its chart's block list.
+-- Rules 12.2 and 12.4: the buffers after an analysis that settled at this table; the block list is the chart's.
 abbrev pub filledBy : Plan → List ℕ → List (Cell Ages) → Buffers → Buffers
 filledBy plan blocks table buffers = fill blocks (lentOf plan table) (tableClasses plan table) buffers
 
+-- Rule 12.3: the buffers after refusal 12, zeros but for the block list.
 abbrev pub filledByZeros : Plan → List ℕ → Buffers → Buffers
 filledByZeros plan blocks buffers = fill blocks (zeroLent plan) (replicate (classesUsed plan) 0) buffers
 
--- "An analysis that settles returns its pass count and B." "After 12 the block list is written, the other used parts are zero, and
--- the pass count is the allowance."
+-- Rule 12.4 where the passes settle; where they do not, rule 11.12, and what rules 12.3 and 12.8 say of refusal 12.
 unfoldable pub finish : Plan → List ℕ → ℕ → Buffers → Outcome Ages → Left
 finish plan blocks allowance buffers (settled passes table) =
     record {
@@ -130,16 +133,18 @@ finish plan blocks allowance buffers spent =
       buffers = filledByZeros plan blocks buffers;
     }
 
--- "After 1 to 11 nothing lent has changed."
+-- Rule 12.3, of refusals 1 to 11: the buffers are those that were lent.
 abbrev pub refuse : Buffers → Refusal → Left
 refuse buffers refusal = record { answer = Refused refusal; buffers = buffers }
 
+-- Rules 11.11 and 11.12, in the order of their numbers; refusals 1 to 10 are the reader's.
 abbrev pub analyseRead : ℕ → Buffers → Read → Left
 analyseRead allowance buffers (accepted chart) =
-    firstRule (refuse buffers) ((buffersShort (planOf chart) buffers ⇒ ShortBuffer) ∷ [])
+    firstCase (refuse buffers) ((buffersShort (planOf chart) buffers ⇒ ShortBuffer) ∷ [])
     (finish (planOf chart) (chart .blocks) allowance buffers (settle (agesFlow chart) allowance))
 analyseRead allowance buffers (refused refusal) = refuse buffers refusal
 
+-- Rule 12.3, of any bytes: refusals 1 to 12, or an analysis that settles.
 unfoldable pub analysed : List ℕ → ℕ → Buffers → Left
 analysed bytes allowance buffers = analyseRead allowance buffers (readChart bytes)
 

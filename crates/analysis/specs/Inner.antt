@@ -1,4 +1,5 @@
--- What the analysis's inner functions promise one another. Nothing here is document 01's.
+-- What the analysis's inner functions promise one another: a table without a mark, and how an analysis ends whichever list of blocks is written
+-- beside it. Nothing here is a rule of the tool.
 use Prim.Native.Nat.{ℕ}
 use mathlib.Core.List.{List, []}
 use mathlib.Core.Path.{_≡_}

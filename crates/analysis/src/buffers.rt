@@ -1,4 +1,5 @@
-// The lent buffers: whether there is room, the block list, a table cleared and begun.
+// Tells whether the lent buffers have room (rule 11.11), writes the block list, clears a table and begins it (rule 9.1). Callers keep that there
+// is room for what is written; nothing beyond the used parts changes. Nothing is refused here.
 ghost use mathlib.Core.Path.{_≡_};
 ghost use Prim.Native.Nat.{_≤_, _<_};
 ghost use lib.ListN.{length, getD};
@@ -13,7 +14,7 @@ ghost use Rattle.analysis.specs.Analysis.{buffersShort, entryBuffers};
 ghost use Rattle.analysis.specs.Inner.{sized, blankOver};
 use rows::Row;
 
-// Whether a buffer is shorter than a plan uses.
+// Whether one of the buffers has fewer places than a plan uses.
 pub(crate) fn short_for(
     plan: &[u16],
     blocks: &[u32],
@@ -33,7 +34,7 @@ pub(crate) fn short_for(
     (blocks.len() < count) | (table | (classes.len() < nodes))
 }
 
-// The first `count` blocks of the list into a lent buffer.
+// Writes the first `count` blocks of the list into a lent buffer.
 pub(crate) fn write_blocks(list: &[u32], count: usize, blocks: &mut [u32])
     requires { ⌜ (count ≤ length (now list)) × (count ≤ length (now blocks)) ⌝ }
     ensures { λ r. ⌜ now (blocks .exit) ≡ patch (now (blocks .entry)) 0 count (λ k. getD (now (list .entry)) k 0) ⌝ }
@@ -43,7 +44,7 @@ pub(crate) fn write_blocks(list: &[u32], count: usize, blocks: &mut [u32])
     }
 }
 
-// Zeros in every used place of a table.
+// Writes zeros in every used place of a table.
 pub(crate) fn clear(plan: &[u16], must: &mut [u8], may: &mut [u8], marks: &mut [u8])
     requires { ⌜ 1 < length (now plan) ⌝ }
     requires { ⌜ RoomFor plan must may marks ⌝ }
@@ -56,7 +57,7 @@ pub(crate) fn clear(plan: &[u16], must: &mut [u8], may: &mut [u8], marks: &mut [
     tables::fill(marks, 0, nodes, 0);
 }
 
-// A table that has only the entry marked, with the start: met into a table without a mark, the start is taken as it is.
+// Leaves the table before the first pass (rule 9.1): the start, met into a table without a mark, is taken as it is.
 pub(crate) fn start_table(
     columns: &[u8],
     plan: &[u16],

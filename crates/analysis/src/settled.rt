@@ -1,4 +1,5 @@
-// The analysis as a whole.
+// The analysis as a whole. It answers its pass count and B, and leaves the table that settled, with classes; or it refuses, with nothing lent changed
+// by 1 to 11, and zeros beside the block list by 12.
 ghost use mathlib.Core.Path.{_≡_};
 ghost use Prim.Native.Nat.{_≤_};
 ghost use lib.ListN.{length};
@@ -12,10 +13,10 @@ use crate::buffers::short_for;
 use crate::buffers::start_table;
 use crate::buffers::write_blocks;
 use chart::Verdict;
-use passes::Settling;
 use refusals::Refusal;
+use settling::Settling;
 
-// Passes over the table of a plan, in buffers that have room; then classes, or zeros where the passes allowed were not enough.
+// Settles the table of a plan in buffers that have room, and writes classes; or leaves zeros, where the passes allowed were not enough.
 fn settle_table(
     columns: &[u8],
     plan: &[u16],
@@ -33,7 +34,7 @@ fn settle_table(
     let nodes = plan::nodes_in(plan);
     let blocks = plan::blocks_in(plan);
     start_table(columns, plan, must, may, marks);
-    let settling = passes::settle(columns, plan, must, may, marks, allowance);
+    let settling = settling::settle(columns, plan, must, may, marks, allowance);
     match settling {
         Settling::Settled(passes) => {
             classing::write_classes(columns, plan, must, may, marks, classes);
@@ -53,8 +54,8 @@ fn settle_table(
     }
 }
 
-// Settles the ages of any bytes in the lent buffers within an allowance of passes, or answers the first of refusals 1 to 12 that
-// applies.
+// Answers for any bytes, any allowance and any lent buffers: settled after so many passes, or the first of refusals 1 to 12 that applies. What it
+// leaves in the buffers rules 12.2 and 12.3 say.
 pub fn analyse(
     chart: &[u8],
     allowance: usize,

@@ -73,7 +73,7 @@ module _ (size count : ℕ) (array : List ℕ) (b p : ℕ) (given : Listing size
   put-there h e =
       let same : insert b (take count array) ≡ take count array = insert-there b (take count array) (in-length h) (at-place h ∙ e) in
       record {
-        counted = sym (ap length same ∙ listing-length size count array given);
+        count-is = sym (ap length same ∙ listing-length size count array given);
         laid = λ _. given .laid ∙ ap (padded size) (sym same);
       }
 
@@ -90,12 +90,12 @@ module _ (size count : ℕ) (array : List ℕ) (b p : ℕ) (given : Listing size
     put-counted = sym (ap length put-between ∙ length-put b p (take count array) within-list ∙ ap (λ (k : ℕ). k + 1) (listing-length size count array given))
 
     pub put-over : size ≤ count → Laid size (insert b (take count array)) (count + 1) array
-    put-over h = record { counted = put-counted; laid = λ k. absurd (omega arith) }
+    put-over h = record { count-is = put-counted; laid = λ k. absurd (omega arith) }
 
     pub put-new : count < size → (after : List ℕ) → after ≡ paste array p (b ∷ drop p array) (count - p + 1) → Laid size (insert b (take count array)) (count + 1) after
     put-new h after e =
         record {
-          counted = put-counted;
+          count-is = put-counted;
           laid = λ _. e
               ∙ ap (λ (a : List ℕ). paste a p (b ∷ drop p a) (count - p + 1)) (given .laid)
               ∙ ap (λ (k : ℕ). paste (padded size (take count array)) p (b ∷ drop p (padded size (take count array))) (k - p + 1)) (sym (listing-length size count array given))
@@ -104,7 +104,7 @@ module _ (size count : ℕ) (array : List ℕ) (b p : ℕ) (given : Listing size
         }
 
 pub put-none : (size count : ℕ) (array : List ℕ) → Listing size count array → Laid size (take count array) count array
-put-none size count array given = record { counted = sym (listing-length size count array given); laid = λ _. given .laid }
+put-none size count array given = record { count-is = sym (listing-length size count array given); laid = λ _. given .laid }
 
 -- ---- the blocks of all nodes
 
@@ -125,7 +125,7 @@ module _ (size : ℕ) (touches : ℕ → List ℕ) (n count : ℕ) (array : List
 
 module _ (size : ℕ) (touches : ℕ → List ℕ) (n more : ℕ) (after : List ℕ) (given : Laid size (gathered touches (n + 1)) more after) where
   then-many : more ≡ length (gathered touches (suc n))
-  then-many = given .counted ∙ ap (λ (k : ℕ). length (gathered touches k)) (add-one n)
+  then-many = given .count-is ∙ ap (λ (k : ℕ). length (gathered touches k)) (add-one n)
 
   pub gather-over : size < more → overfull size touches n ≡ true
   unfolding overfull

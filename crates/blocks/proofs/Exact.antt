@@ -35,28 +35,28 @@ insert-all-only b [] l i = inr i
 insert-all-only b (c ∷ cs) l i =
     ⊎-elim (λ j. inl (inr j)) (λ j. ⊎-elim (λ e. inl (inl e)) (λ k. inr k) (insert-only b c l j)) (insert-all-only b cs (insert c l) i)
 
-module _ (touched : ℕ → List ℕ) where
-  gathered-only : (nodes b : ℕ) → Among b (gathered touched nodes) → (n : ℕ) × (n < nodes) × Among b (touched n)
+module _ (touchesAt : ℕ → List ℕ) where
+  gathered-only : (nodes b : ℕ) → Among b (gathered touchesAt nodes) → (n : ℕ) × (n < nodes) × Among b (touchesAt n)
   unfolding gathered
   gathered-only zero b i = absurd i
   gathered-only (suc nodes) b i =
-      ⊎-elim here (λ j. before (gathered-only nodes b j)) (insert-all-only b (touched nodes) (gathered touched nodes) i)
+      ⊎-elim here (λ j. before (gathered-only nodes b j)) (insert-all-only b (touchesAt nodes) (gathered touchesAt nodes) i)
     where
-      here : Among b (touched nodes) → (n : ℕ) × (n < suc nodes) × Among b (touched n)
+      here : Among b (touchesAt nodes) → (n : ℕ) × (n < suc nodes) × Among b (touchesAt n)
       here j = (nodes, omega arith, j)
 
-      before : (n : ℕ) × (n < nodes) × Among b (touched n) → (n : ℕ) × (n < suc nodes) × Among b (touched n)
+      before : (n : ℕ) × (n < nodes) × Among b (touchesAt n) → (n : ℕ) × (n < suc nodes) × Among b (touchesAt n)
       before found = (found .0, omega (arith, found .1), found .2)
 
-  gathered-all : (nodes n b : ℕ) → n < nodes → Among b (touched n) → Among b (gathered touched nodes)
+  gathered-all : (nodes n b : ℕ) → n < nodes → Among b (touchesAt n) → Among b (gathered touchesAt nodes)
   gathered-all nodes n b h i =
-      let placed = placed-gathered touched n b i nodes h in
-      subst (λ (x : ℕ). Among x (gathered touched nodes)) (placed .1) (among-at (gathered touched nodes) (placeIn (gathered touched nodes) b) (placed .0))
+      let placed = placed-gathered touchesAt n b i nodes h in
+      subst (λ (x : ℕ). Among x (gathered touchesAt nodes)) (placed .1) (among-at (gathered touchesAt nodes) (placeIn (gathered touchesAt nodes) b) (placed .0))
 
-  pub gathered-exactly : (nodes : ℕ) → Exactly touched nodes (gathered touched nodes)
+  pub gathered-exactly : (nodes : ℕ) → Exactly touchesAt nodes (gathered touchesAt nodes)
   gathered-exactly nodes =
       record {
-        ascending = asc-gathered touched nodes;
+        ascending = asc-gathered touchesAt nodes;
         only-touched = gathered-only nodes;
         all-touched = gathered-all nodes;
       }
@@ -80,11 +80,11 @@ insert-all-longer : (cs l : List ℕ) → length l ≤ length (insertAll cs l)
 insert-all-longer [] l = omega arith
 insert-all-longer (c ∷ cs) l = omega (arith, insert-longer c l, insert-all-longer cs (insert c l))
 
-pub gathered-longer : (touched : ℕ → List ℕ) (n more : ℕ) → n ≤ more → length (gathered touched n) ≤ length (gathered touched more)
+pub gathered-longer : (touchesAt : ℕ → List ℕ) (n more : ℕ) → n ≤ more → length (gathered touchesAt n) ≤ length (gathered touchesAt more)
 unfolding gathered
-gathered-longer touched n zero h = let e : n ≡ 0 = omega arith in rw e (omega arith)
-gathered-longer touched n (suc more) h = go (ℕ-discrete n (suc more)) (gathered-longer touched n more)
+gathered-longer touchesAt n zero h = let e : n ≡ 0 = omega arith in rw e (omega arith)
+gathered-longer touchesAt n (suc more) h = go (ℕ-discrete n (suc more)) (gathered-longer touchesAt n more)
   where
-    go : Dec (n ≡ suc more) → (n ≤ more → length (gathered touched n) ≤ length (gathered touched more)) → length (gathered touched n) ≤ length (insertAll (touched more) (gathered touched more))
+    go : Dec (n ≡ suc more) → (n ≤ more → length (gathered touchesAt n) ≤ length (gathered touchesAt more)) → length (gathered touchesAt n) ≤ length (insertAll (touchesAt more) (gathered touchesAt more))
     go (yes e) rest = rw e (omega arith)
-    go (no e) rest = omega (arith, rest (omega arith), insert-all-longer (touched more) (gathered touched more))
+    go (no e) rest = omega (arith, rest (omega arith), insert-all-longer (touchesAt more) (gathered touchesAt more))

@@ -12,7 +12,7 @@ use Rattle.blocks.specs.Blocks.{insert, gathered, insertAll, placeIn}
 use Rattle.blocks.proofs.Search.{place-here, place-past}
 use Rattle.blocks.proofs.Insertion.{insert-cases}
 
-abbrev pub Placed : ℕ → List ℕ → Type 0
+abbrev Placed : ℕ → List ℕ → Type 0
 Placed b l = (placeIn l b < length l) × (getD l (placeIn l b) 0 ≡ b)
 
 placed-here : (b x : ℕ) (l : List ℕ) → x ≡ b → Placed b (x ∷ l)
@@ -36,9 +36,9 @@ placed-insert b (x ∷ l) =
     let rest = placed-insert b l in
     insert-cases (Placed b) b x l (λ h. placed-past b x (insert b l) h rest) (λ e. placed-here b x l e) (λ h. placed-here b b (x ∷ l) refl)
 
-placed-kept : (b c : ℕ) (l : List ℕ) → Placed b l → Placed b (insert c l)
-placed-kept b c [] p = absurd (omega (arith, p .0))
-placed-kept b c (x ∷ l) p = ⊎-elim here (past (placed-kept b c l)) (placed-cases b x l p)
+placed-stays : (b c : ℕ) (l : List ℕ) → Placed b l → Placed b (insert c l)
+placed-stays b c [] p = absurd (omega (arith, p .0))
+placed-stays b c (x ∷ l) p = ⊎-elim here (past (placed-stays b c l)) (placed-cases b x l p)
   where
     here : x ≡ b → Placed b (insert c (x ∷ l))
     here e = insert-cases (Placed b) c x l (λ h. placed-here b x (insert c l) e) (λ h. p) (λ h. placed-past b c (x ∷ l) (omega arith) p)
@@ -48,14 +48,14 @@ placed-kept b c (x ∷ l) p = ⊎-elim here (past (placed-kept b c l)) (placed-c
         let h : x < b = q .0 in
         insert-cases (Placed b) c x l (λ k. placed-past b x (insert c l) h (rest (q .1))) (λ k. p) (λ k. placed-past b c (x ∷ l) (omega arith) p)
 
-placed-all-kept : (b : ℕ) (cs l : List ℕ) → Placed b l → Placed b (insertAll cs l)
-placed-all-kept b [] l p = p
-placed-all-kept b (c ∷ cs) l p = placed-all-kept b cs (insert c l) (placed-kept b c l p)
+placed-all-stay : (b : ℕ) (cs l : List ℕ) → Placed b l → Placed b (insertAll cs l)
+placed-all-stay b [] l p = p
+placed-all-stay b (c ∷ cs) l p = placed-all-stay b cs (insert c l) (placed-stays b c l p)
 
 -- Each of the blocks put in stands at its place afterwards.
 placed-all : (b : ℕ) (cs l : List ℕ) → Among b cs → Placed b (insertAll cs l)
 placed-all b [] l i = absurd i
-placed-all b (c ∷ cs) l (inl e) = placed-all-kept b cs (insert c l) (rw e (placed-insert c l))
+placed-all b (c ∷ cs) l (inl e) = placed-all-stay b cs (insert c l) (rw e (placed-insert c l))
 placed-all b (c ∷ cs) l (inr i) = placed-all b cs (insert c l) i
 
 -- A block that a node touches, among those of more nodes than it.
@@ -66,4 +66,4 @@ placed-gathered touches n b i (suc nodes) h = go (ℕ-discrete n nodes) (placed-
   where
     go : Dec (n ≡ nodes) → (n < nodes → Placed b (gathered touches nodes)) → Placed b (insertAll (touches nodes) (gathered touches nodes))
     go (yes q) before = rw (← q) (placed-all b (touches n) (gathered touches n) i)
-    go (no q) before = placed-all-kept b (touches nodes) (gathered touches nodes) (before (omega arith))
+    go (no q) before = placed-all-stay b (touches nodes) (gathered touches nodes) (before (omega arith))

@@ -6,6 +6,7 @@ use native.Mathlib.Numerals.{add-one}
 use native.Mathlib.Omega.{arith}
 use lib.ListN.{length, getD, drop, set, length-drop}
 use lib.Seq.{paste, paste-zero, paste-suc, drop-paste, getD-drop}
+use Rattle.blocks.specs.Listing.{shifted, carriedAt}
 
 getD-paste-past : (d s : List ℕ) (at n : ℕ) → at ≤ length d → n ≤ length s → getD (paste d at s n) (at + n) 0 ≡ getD d (at + n) 0
 getD-paste-past d s at n h k =
@@ -17,29 +18,23 @@ getD-paste-past d s at n h k =
     ∙ ap (λ (i : ℕ). getD d i 0) z
 
 module _ (l : List ℕ) (place block : ℕ) where
-  abbrev pub shifted : ℕ → List ℕ
-  shifted i = paste l place (block ∷ drop place l) i
-
-  abbrev pub carriedAt : ℕ → ℕ
-  carriedAt i = getD (block ∷ drop place l) i 0
-
-  pub shift-begins : l ≡ shifted 0
+  pub shift-begins : l ≡ shifted l place block 0
   shift-begins = paste-zero l place (block ∷ drop place l)
 
-  module _ (now : List ℕ) (carried i : ℕ) (fits : place + i < length l) (stored : now ≡ shifted i) (carries : carried ≡ carriedAt i) where
+  module _ (now : List ℕ) (carried i : ℕ) (fits : place + i < length l) (stored : now ≡ shifted l place block i) (carries : carried ≡ carriedAt l place block i) where
     within : i < length (block ∷ drop place l)
     within = omega (arith, length-drop place l)
 
-    pub shift-stores : set now (place + i) carried ≡ shifted (i + 1)
+    pub shift-stores : set now (place + i) carried ≡ shifted l place block (i + 1)
     shift-stores =
         ap (λ (a : List ℕ). set a (place + i) carried) stored
-        ∙ ap (λ (v : ℕ). set (shifted i) (place + i) v) carries
+        ∙ ap (λ (v : ℕ). set (shifted l place block i) (place + i) v) carries
         ∙ paste-suc l place (block ∷ drop place l) i 0 fits within
-        ∙ ap shifted (sym (add-one i))
+        ∙ ap (shifted l place block) (sym (add-one i))
 
-    pub shift-carries : getD now (place + i) 0 ≡ carriedAt (i + 1)
+    pub shift-carries : getD now (place + i) 0 ≡ carriedAt l place block (i + 1)
     shift-carries =
         ap (λ (a : List ℕ). getD a (place + i) 0) stored
         ∙ getD-paste-past l (block ∷ drop place l) place i (omega arith) (omega (arith, within))
         ∙ sym (getD-drop place l i 0)
-        ∙ ap carriedAt (sym (add-one i))
+        ∙ ap (carriedAt l place block) (sym (add-one i))

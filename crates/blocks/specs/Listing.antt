@@ -1,8 +1,10 @@
--- Lists of blocks in arrays. Nothing here is document 01's: contracts of inner functions speak of it.
+-- Lists of blocks in arrays.
+-- Nothing here is a rule of the tool: contracts of inner functions speak of it.
 use Prim.Native.Nat.{ℕ, _≤_, _<_}
-use mathlib.Core.List.{List}
+use mathlib.Core.List.{List, _∷_}
 use mathlib.Core.Path.{_≡_}
-use lib.ListN.{getD, length, take}
+use lib.ListN.{getD, length, take, drop}
+use lib.Seq.{paste}
 use Rattle.lists.specs.Lists.{padded}
 
 -- The first n places of a list, each above the one before.
@@ -17,5 +19,13 @@ pub record Listing (size count : ℕ) (array : List ℕ) : Type 0 where
 
 -- An array after a list was laid into it: how long the list is, and the array, where there is room.
 pub record Laid (size : ℕ) (l : List ℕ) (count : ℕ) (array : List ℕ) : Type 0 where
-  pub counted : count ≡ length l
+  pub count-is : count ≡ length l
   pub laid : count ≤ size → array ≡ padded size l
+
+-- A list with a block stored at a place, and what stands from there on moved up by one, when so many places are stored; and what is
+-- carried to the next.
+abbrev pub shifted : List ℕ → ℕ → ℕ → ℕ → List ℕ
+shifted l place block i = paste l place (block ∷ drop place l) i
+
+abbrev pub carriedAt : List ℕ → ℕ → ℕ → ℕ → ℕ
+carriedAt l place block i = getD (block ∷ drop place l) i 0

@@ -1,4 +1,5 @@
-// Ascending lists of blocks, in arrays that the caller lends.
+// Ascending lists of blocks, in arrays that the caller lends: the place of a block, and how many there are when one is put in (rule 3.4).
+// Nothing is refused here: callers keep lists that ascend, and look whether there are more blocks than they have places for.
 ghost use mathlib.Core.Path.{_≡_};
 ghost use mathlib.Core.List.{_∷_};
 ghost use Prim.Native.Nat.{_+_, _-_, _≤_, _<_};
@@ -41,8 +42,8 @@ fn shift_in(blocks: &mut [u32], place: usize, count: usize, block: u32)
     }
 }
 
-// Puts a block into the first `count` of an array of `most`, where it is not there yet, and answers how many there are then: what the
-// array holds where that is too many for it is not said.
+// Puts a block into the first `count` of an array of `most`, where it is not there yet, and answers how many there are then. What the
+// array holds where that is more than `most` is not said.
 pub fn put_block(blocks: &mut [u32], most: usize, count: usize, block: u32) -> usize
     requires { ⌜ Listing most count (now blocks) ⌝ }
     ensures { λ r. ⌜ Laid most (insert block (take count (now (blocks .entry)))) r (now (blocks .exit)) ⌝ }

@@ -1,5 +1,6 @@
--- Soundings of what callers in other languages are told: each answer's numbers in their order; a header whose numbers are all different, so
--- that no two can change places; lists with and without room for them, where one place fewer than an answer has is too few, and just as many are enough.
+-- Soundings of what callers in other languages are told: each answer's numbers in their order; a header whose numbers are all different, so that
+-- no two can change places; lists with and without room for them, where one place fewer than an answer has is too few, and just as many are
+-- enough. Nothing here is a rule of the tool: it is what rule 12.9 comes to.
 use Prim.Native.Nat.{ℕ, _+_}
 use mathlib.Core.Bool.{true, false}
 use mathlib.Core.Path.{_≡_}
@@ -25,6 +26,7 @@ sample start = record { geometry = record { line = 5; sets = 3; ways = 2 }; star
 abbrev pub places : ℕ → List ℕ
 places count = listOf count (λ k. 9 + k)
 
+-- Rule 12.9, answer by answer.
 pub record ToldSounded : Type 0 where
   pub empty-told : headerNumbers (sample Empty) ≡ 5 ∷ 3 ∷ 2 ∷ 1 ∷ 9 ∷ 7 ∷ []
   pub unknown-told : headerNumbers (sample Unknown) ≡ 5 ∷ 3 ∷ 2 ∷ 0 ∷ 9 ∷ 7 ∷ []

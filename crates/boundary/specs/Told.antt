@@ -1,4 +1,6 @@
--- What a caller in another language is told: numbers at the start of a lent list. include/veilbuzz.h names their places in C.
+-- What a caller in another language is told: numbers at the start of a lent list. Rule 12.9, and rule 11.11 of the lists for the answer, which
+-- goes before all other refusals. The checker's yes is told and not returned, and the reader's blocks are not told. include/veilbuzz.h names the
+-- places in C.
 use Prim.Native.Nat.{ℕ}
 use mathlib.Core.Bool.{Bool, cond, _||_}
 use mathlib.Core.List.{List, [], _∷_}
@@ -15,42 +17,44 @@ use Rattle.analysis.specs.Analysis.{AnalysedSaid}
 use Rattle.checker.specs.Checker.{CheckedSaid}
 use Rattle.totals.specs.Totals.{TotalsSaid}
 
--- Whether a lent list has fewer places than the numbers that it is for. Then the function does nothing: it returns 11, and all that is lent
--- stays as it is.
+-- Rules 11.11 and 12.9: a lent list has fewer places than there are numbers to tell in it.
 abbrev pub short : List ℕ → ℕ → Bool
 short lent places = ltb (length lent) places
 
--- What is returned: 11, or the number of the answer.
+-- Rule 12.9: what is returned, 11 or the number of the answer.
 abbrev pub returned : Bool → ℕ → ℕ
 returned short number = cond short (numberOf ShortBuffer) number
 
--- What is left of something lent: what it held before, or what the work makes of it.
+-- Rule 12.9: what is left of something lent, what it held before or what the work makes of it.
 abbrev pub left : {X : Type 0} → Bool → X → X → X
 left short before after = cond short before after
 
--- What is left of a list that numbers are told in: it keeps its tail.
+-- Rule 12.9: what is left of a list that numbers are told in.
 abbrev pub told : Bool → List ℕ → List ℕ → List ℕ
 told short numbers lent = left short lent (written numbers lent)
 
--- The numbers of each function's answer: the refusal's number and place, then what that function alone returns.
+-- Rule 12.9: the reader's answer, number and place before B.
 abbrev pub readNumbers : ReadSaid → List ℕ
 readNumbers said = said .number ∷ said .place ∷ said .blocks ∷ []
 
+-- Rule 12.9: the analysis's, with pass count and B.
 abbrev pub analysedNumbers : AnalysedSaid → List ℕ
 analysedNumbers said = said .number ∷ said .place ∷ said .passes ∷ said .blocks ∷ []
 
+-- Rule 12.9: the checker's, with yes or no.
 abbrev pub checkedNumbers : CheckedSaid → List ℕ
 checkedNumbers said = said .number ∷ said .place ∷ said .yes ∷ []
 
+-- Rule 12.9: the totals', the low one first.
 abbrev pub totalsNumbers : TotalsSaid → List ℕ
 totalsNumbers said = said .number ∷ said .place ∷ said .low ∷ said .high ∷ []
 
--- A lent list with the header told in it; after a refusal it stays as it is.
+-- Rule 12.9: a lent list with an accepted chart's header told in it, or as it was.
 abbrev pub headerTold : Verdict → List ℕ → List ℕ
 headerTold (Accepted header blocks) lent = written (headerNumbers header) lent
 headerTold (Refused refusal) lent = lent
 
--- Whether the lists that a function tells its answer in are short of it; the reader tells the header in one and the rest in another.
+-- Rule 12.9: whether a function's lists are too short for its answer. The reader has two, one for the header and one for the rest.
 abbrev pub readShort : List ℕ → List ℕ → Bool
 readShort header answer = short header 6 || short answer 3
 

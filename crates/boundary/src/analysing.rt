@@ -1,4 +1,5 @@
-// The analysis as a C function.
+// The analysis as a C function. It returns the refusal's number, 0 for none, and leaves what `analysis::analyse` leaves; without room for its
+// answer it returns 11, and has done nothing.
 ghost use mathlib.Core.Path.{_≡_};
 ghost use Rattle.analysis.specs.Analysis.{entryBuffers, exitBuffers, analysedSays, analysed, analyseSays};
 ghost use Rattle.boundary.specs.Told.{analysedShort, returned, left, told, analysedNumbers};
@@ -27,8 +28,8 @@ fn analysed_numbers(answer: Analysed) -> [u64; 4]
     }
 }
 
-// What `analysis::analyse` answers and leaves, the answer told in numbers; returned is the refusal's number, 0 for none. Without room
-// to tell it, nothing is done, and 11 is returned.
+// Tells what `analysis::analyse` answers: number, place, pass count and B (rule 12.9). Returns the number, 0 for no refusal; or 11 for fewer than
+// four places, and then all that is lent stays as it was.
 #[no_mangle]
 pub extern "C" fn veilbuzz_analyse(
     chart: &[u8],

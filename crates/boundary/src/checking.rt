@@ -1,4 +1,5 @@
-// The checker as a C function.
+// The checker as a C function. It returns the refusal's number, 0 for none, whether the table passes or not; without room for its answer it returns
+// 11, and has done nothing.
 ghost use mathlib.Core.Path.{_≡_};
 ghost use Rattle.tables.specs.Contract.{entryTable};
 ghost use Rattle.checker.specs.Checker.{checkedSays, checkSays};
@@ -12,8 +13,8 @@ fn checked_numbers(answer: Checked) -> [u64; 3]
     ensures { λ r. ⌜ r ≡ checkedNumbers (checkedSays answer) ⌝ }
 {
     match answer {
-        Checked::Passes => [0, 0, 1],
-        Checked::Fails => [0, 0, 0],
+        Checked::Yes => [0, 0, 1],
+        Checked::No => [0, 0, 0],
         Checked::Refused(refusal) => {
             let number = refusal.number();
             let place = refusal.place() as u64;
@@ -22,8 +23,8 @@ fn checked_numbers(answer: Checked) -> [u64; 3]
     }
 }
 
-// What `checker::check` answers, told in numbers; returned is the refusal's number, 0 for none. Without room to tell it, nothing is
-// done, and 11 is returned.
+// Tells what `checker::check` answers: number, place, and 1 for yes or 0 for no (rule 12.9). Returns the number, 0 for no refusal; or 11 for fewer
+// than three places, and then all that is lent stays as it was.
 #[no_mangle]
 pub extern "C" fn veilbuzz_check(
     chart: &[u8],

@@ -1,7 +1,8 @@
-// The library for callers in other languages: numbers, and runs of numbers with their lengths. include/veilbuzz.h declares it in C.
+// The library for callers in other languages: numbers, and runs of numbers with their lengths. include/veilbuzz.h declares it in C. Each function
+// answers for whatever is lent: it returns a refusal's number, or 0, and tells the rest by rule 12.9.
 //
 // A caller answers for it that each pointer has its length behind it, aligned and set to something, that no buffer that is written overlaps
-// another, and that nobody else writes to one meanwhile, or reads what is written.
+// another, and that nobody else writes to one meanwhile, or reads what is written. A pointer whose length is 0 may be null.
 mod analysing;
 mod checking;
 mod reading;

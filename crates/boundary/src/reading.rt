@@ -1,4 +1,5 @@
-// The reader as a C function.
+// The reader as a C function. It returns the refusal's number, 0 for none; without room for its answer, or for the header, it returns 11, and
+// has done nothing. The blocks are not told.
 ghost use mathlib.Core.Path.{_≡_};
 ghost use Prim.Native.Nat.{_≤_};
 ghost use lib.ListN.{length};
@@ -22,7 +23,7 @@ fn verdict_numbers(verdict: Verdict) -> [u64; 3]
     }
 }
 
-// The header of an accepted chart into a lent list.
+// Tells the header of an accepted chart in a lent list; after a refusal the list stays as it was.
 fn tell_header(verdict: Verdict, lent: &mut [u64])
     requires { ⌜ 6 ≤ length (now lent) ⌝ }
     ensures { λ _. ⌜ now (lent .exit) ≡ headerTold verdict (now (lent .entry)) ⌝ }
@@ -42,8 +43,8 @@ fn tell_header(verdict: Verdict, lent: &mut [u64])
     tell(&numbers, lent);
 }
 
-// What `chart::read` answers, told in numbers, and the header; returned is the refusal's number, 0 for none. Without room to tell both,
-// nothing is done, and 11 is returned.
+// Tells what `chart::read` answers: number, place and B, and an accepted chart's header in a list of its own (rule 12.9). Returns the number, 0 for
+// no refusal; or 11 for fewer than three places or fewer than six for the header, and then all that is lent stays as it was.
 #[no_mangle]
 pub extern "C" fn veilbuzz_read(chart: &[u8], header: &mut [u64], answer: &mut [u64]) -> u64
     ensures { λ r. ⌜ r ≡ returned (readShort (now (header .entry)) (now (answer .entry))) (readSays (now (chart .entry)) .number) ⌝ }

@@ -1,4 +1,4 @@
-// Numbers told in a lent list.
+// Tells numbers at the start of a lent list, which keeps the rest. Callers keep that it is long enough; where it is not, they return `no_room`.
 ghost use mathlib.Core.Path.{_≡_};
 ghost use Prim.Native.Nat.{_≤_};
 ghost use lib.ListN.{length};
@@ -7,7 +7,7 @@ ghost use Rattle.refusals.specs.Refusals.{numberOf};
 ghost use Rattle.lists.specs.Lists.{written};
 use refusals::Refusal;
 
-// What is returned where a list is too short for what is told in it.
+// What is returned where a list is too short for what is told in it: 11.
 pub(crate) fn no_room() -> u64
     ensures { λ r. ⌜ r ≡ numberOf ShortBuffer ⌝ }
 {

@@ -1,7 +1,7 @@
-// The totals as a C function.
+// The totals as a C function. It returns the refusal's number, 0 for none; without room for its answer it returns 11, and has done nothing.
 ghost use mathlib.Core.Path.{_≡_};
 ghost use Rattle.tables.specs.Contract.{entryTable};
-ghost use Rattle.totals.specs.Totals.{entryPrices, totalsSay, totalSays};
+ghost use Rattle.totals.specs.Totals.{entryFigures, totalsSay, totalSays};
 ghost use Rattle.boundary.specs.Told.{totalsShort, returned, told, totalsNumbers};
 use crate::telling::no_room;
 use crate::telling::tell;
@@ -21,8 +21,8 @@ fn totals_numbers(answer: Totals) -> [u64; 4]
     }
 }
 
-// What `totals::total` answers, told in numbers; returned is the refusal's number, 0 for none. Without room to tell it, nothing is
-// done, and 11 is returned.
+// Tells what `totals::total` answers: number, place, the low and the high total (rule 12.9). Returns the number, 0 for no refusal; or 11 for fewer
+// than four places, and then all that is lent stays as it was.
 #[no_mangle]
 pub extern "C" fn veilbuzz_total(
     chart: &[u8],
@@ -35,8 +35,8 @@ pub extern "C" fn veilbuzz_total(
     ceilings: &[u16],
     answer: &mut [u64],
 ) -> u64
-    ensures { λ r. ⌜ r ≡ returned (totalsShort (now (answer .entry))) (totalSays (now (chart .entry)) (entryTable must may marks) (entryPrices hit miss floors ceilings) .number) ⌝ }
-    ensures { λ r. ⌜ now (answer .exit) ≡ told (totalsShort (now (answer .entry))) (totalsNumbers (totalSays (now (chart .entry)) (entryTable must may marks) (entryPrices hit miss floors ceilings))) (now (answer .entry)) ⌝ }
+    ensures { λ r. ⌜ r ≡ returned (totalsShort (now (answer .entry))) (totalSays (now (chart .entry)) (entryTable must may marks) (entryFigures hit miss floors ceilings) .number) ⌝ }
+    ensures { λ r. ⌜ now (answer .exit) ≡ told (totalsShort (now (answer .entry))) (totalsNumbers (totalSays (now (chart .entry)) (entryTable must may marks) (entryFigures hit miss floors ceilings))) (now (answer .entry)) ⌝ }
 {
     if answer.len() < 4 {
         return no_room();

@@ -12,8 +12,9 @@ use Rattle.lists.proofs.Listed.{getD-listOf}
 use Rattle.cache.specs.Ages.{Columns, Ages, ageOf, mustAfter, mayAfter, touchAges, startAges, Tighter}
 use Rattle.cache.specs.Plain.{Cache, touchSet, hits, touch, age, Different, AllOf, Formed}
 use Rattle.cache.specs.Bounds.{Bounds}
-use Rattle.cache.proofs.Growing.{Aged, grown-above, may-grown-below}
-use Rattle.cache.proofs.Places.{age-empty, age-most, age-apart, touched-ages, touched-first, touched-different, touched-own, touched-short, young-has, old-lacks}
+use Rattle.cache.specs.Laws.{Aged, Named}
+use Rattle.cache.proofs.Growing.{grown-above, may-grown-below}
+use Rattle.cache.proofs.Places.{age-empty, age-most, age-apart, touch-ages, touch-first, touch-different, touch-own, touch-short, young-has, old-lacks}
 use Rattle.cache.proofs.Touching.{touch-must, touch-may}
 
 -- ---- a touch of the whole cache
@@ -23,18 +24,18 @@ module _ (ways key : ℕ → ℕ) (m : ℕ) (cache : Cache) where
   unfolding touch
   touch-here set e = rw (eq-eqb set (key m) e)
 
-  -- "Other sets do not change."
+  -- Rule 4.4: other sets.
   touch-elsewhere : (set : ℕ) → (set ≡ key m → ⊥) → touch ways key m cache set ≡ cache set
   unfolding touch
   touch-elsewhere set e = rw (ne-eqb set (key m) e)
 
-  age-touched : age ways key (touch ways key m cache) m ≡ 0
+  age-touch : age ways key (touch ways key m cache) m ≡ 0
   unfolding age
-  age-touched = rw (touch-here (key m) refl) (touched-first (ways (key m)) m (cache (key m)))
+  age-touch = rw (touch-here (key m) refl) (touch-first (ways (key m)) m (cache (key m)))
 
   age-same-set : (block : ℕ) → (block ≡ m → ⊥) → key block ≡ key m → Aged (age ways key cache m) (age ways key cache block) (age ways key (touch ways key m cache) block)
   unfolding age
-  age-same-set block apart e = rw (touch-here (key block) e, ← e) (touched-ages m block apart (ways (key block)) (cache (key block)))
+  age-same-set block apart e = rw (touch-here (key block) e, ← e) (touch-ages m block apart (ways (key block)) (cache (key block)))
 
   age-other-set : (block : ℕ) → (key block ≡ key m → ⊥) → age ways key (touch ways key m cache) block ≡ age ways key cache block
   unfolding age
@@ -48,9 +49,9 @@ module _ (ways key : ℕ → ℕ) (m : ℕ) (cache : Cache) where
 pub touch-formed : (ways key : ℕ → ℕ) (m : ℕ) (cache : Cache) → Formed ways key cache → Formed ways key (touch ways key m cache)
 touch-formed ways key m cache formed =
     record {
-      short = λ set. at set (λ l. length l ≤ ways set) (λ e. touched-short (ways set) m (cache set)) (formed .short set);
-      different = λ set. at set Different (λ e. touched-different (ways set) m (cache set) (formed .different set)) (formed .different set);
-      own = λ set. at set (AllOf key set) (λ e. touched-own key set (ways set) m (cache set) (sym e) (formed .own set)) (formed .own set);
+      short = λ set. at set (λ l. length l ≤ ways set) (λ e. touch-short (ways set) m (cache set)) (formed .short set);
+      different = λ set. at set Different (λ e. touch-different (ways set) m (cache set) (formed .different set)) (formed .different set);
+      own = λ set. at set (AllOf key set) (λ e. touch-own key set (ways set) m (cache set) (sym e) (formed .own set)) (formed .own set);
     }
   where
     at : (set : ℕ) (P : List ℕ → Type 0) → (set ≡ key m → P (touchSet (ways set) m (cache set))) → P (cache set) → P (touch ways key m cache set)
@@ -71,14 +72,6 @@ age-bare ways key cache block e = rw e (age-empty (ways (key block)) block)
 -- ---- columns that name blocks, and rows that bound their ages
 
 module _ (columns : Columns) (ways key : ℕ → ℕ) (blockAt : ℕ → ℕ) where
-  pub record Named : Type 0 where
-    -- two columns have one key exactly if their blocks have
-    pub one-set : (i j : ℕ) → i < columns .count → j < columns .count → columns .key i ≡ columns .key j → key (blockAt i) ≡ key (blockAt j)
-    pub one-key : (i j : ℕ) → i < columns .count → j < columns .count → key (blockAt i) ≡ key (blockAt j) → columns .key i ≡ columns .key j
-    pub must-limits : (column : ℕ) → column < columns .count → columns .mustLimit column ≡ ways (key (blockAt column))
-    pub may-limits : (column : ℕ) → column < columns .count → columns .mayLimit column ≡ ways (key (blockAt column))
-    pub apart : (i j : ℕ) → i < columns .count → j < columns .count → blockAt i ≡ blockAt j → i ≡ j
-
   -- A row that allows more bounds as well.
   pub bounds-weaker : (a b : Ages) (cache : Cache) → Tighter columns a b → Bounds columns ways key blockAt a cache → Bounds columns ways key blockAt b cache
   bounds-weaker a b cache tighter bounds =
@@ -89,7 +82,7 @@ module _ (columns : Columns) (ways key : ℕ → ℕ) (blockAt : ℕ → ℕ) wh
       }
 
   -- The start bounds what it allows: anything, or, where it is empty, lists that are.
-  pub start-bounds : Named → (empty : Bool) (cache : Cache) → Formed ways key cache → (empty ≡ true → (set : ℕ) → cache set ≡ []) → Bounds columns ways key blockAt (startAges columns empty) cache
+  pub start-bounds : Named columns ways key blockAt → (empty : Bool) (cache : Cache) → Formed ways key cache → (empty ≡ true → (set : ℕ) → cache set ≡ []) → Bounds columns ways key blockAt (startAges columns empty) cache
   unfolding startAges
   start-bounds named empty cache formed bare =
       record {
@@ -102,7 +95,7 @@ module _ (columns : Columns) (ways key : ℕ → ℕ) (blockAt : ℕ → ℕ) wh
       least true bare column h = omega (arith, named .may-limits column h, age-bare ways key cache (blockAt column) (bare refl (key (blockAt column))))
       least false bare column h = zero-le
 
-  module _ (named : Named) (m : ℕ) (inside : m < columns .count) (a : Ages) (cache : Cache) (bounds : Bounds columns ways key blockAt a cache) where
+  module _ (named : Named columns ways key blockAt) (m : ℕ) (inside : m < columns .count) (a : Ages) (cache : Cache) (bounds : Bounds columns ways key blockAt a cache) where
     abbrev after : Cache
     after = touch ways key (blockAt m) cache
 
@@ -124,7 +117,7 @@ module _ (columns : Columns) (ways key : ℕ → ℕ) (blockAt : ℕ → ℕ) wh
       must-after = go (ℕ-discrete column m) (ℕ-discrete (columns .key column) (columns .key m))
         where
           go : Dec (column ≡ m) → Dec (columns .key column ≡ columns .key m) → age ways key after block ≤ mustAfter (columns .key) m (ageOf (a .must)) column
-          go (yes e) d = omega (arith, ap (λ (k : ℕ). age ways key after (blockAt k)) e ∙ age-touched ways key (blockAt m) cache)
+          go (yes e) d = omega (arith, ap (λ (k : ℕ). age ways key after (blockAt k)) e ∙ age-touch ways key (blockAt m) cache)
           go (no p) (yes e) =
               rw (ne-eqb column m p, eq-eqb (columns .key column) (columns .key m) e)
               (grown-above _ _ _ (age-same-set ways key (blockAt m) cache block (other-block p) (same-key e)) _ _ (bounds .must-above m inside) (bounds .must-above column h))

@@ -2,11 +2,12 @@
 -- rule is an upper bound of the age that a touch leaves in the plain cache, and a lower bound grown by the may rule is a lower one.
 use mathlib.Core.Logic.{⊎-elim}
 use mathlib.Core.Path.{_≡_}
-use Prim.Native.Nat.{ℕ, suc, _≤_, _<_}
+use Prim.Native.Nat.{ℕ, _≤_, _<_}
 use native.Mathlib.Omega.{arith}
 use borrow.Author.Tests.{lt-ltb, le-ltb, le-leb, lt-leb}
 use Rattle.lists.proofs.Orders.{below-or, at-most}
 use Rattle.cache.specs.Ages.{mustGrown, mayGrown}
+use Rattle.cache.specs.Laws.{Aged}
 
 -- ---- within the limit
 
@@ -39,11 +40,6 @@ may-grown-monotone limit h k a b w p q =
     (at-most a h)
 
 -- ---- right
-
--- What a touch of a block of age h does in the plain cache to another block of its set, of age x.
-pub record Aged (h x after : ℕ) : Type 0 where
-  pub younger : x < h → after ≡ suc x
-  pub older : h ≤ x → after ≡ x
 
 module _ (h x after : ℕ) (aged : Aged h x after) where
   -- k and y are no less than h and x.

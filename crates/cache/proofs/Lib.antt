@@ -6,3 +6,4 @@ pub mod Touching
 pub mod Bounding
 pub mod Meeting
 pub mod Heights
+pub mod Published

@@ -46,6 +46,14 @@ module _ (columns : Columns) (a b : Ages) where
         may-more = λ block h. omega (arith, meet-may block h, t .may-more block h, u .may-more block h);
       }
 
+pub start-must : (columns : Columns) (empty : Bool) (block : ℕ) → block < columns .count → ageOf (startAges columns empty .must) block ≡ columns .mustLimit block
+unfolding startAges
+start-must columns empty block h = getD-listOf (columns .count) (columns .mustLimit) 0 block h
+
+pub start-may : (columns : Columns) (empty : Bool) (block : ℕ) → block < columns .count → ageOf (startAges columns empty .may) block ≡ cond empty (columns .mayLimit block) 0
+unfolding startAges
+start-may columns empty block h = getD-listOf (columns .count) (λ i. cond empty (columns .mayLimit i) 0) 0 block h
+
 start-may-within : (empty : Bool) (limit : ℕ) → cond empty limit 0 ≤ limit
 start-may-within true limit = omega arith
 start-may-within false limit = omega arith
@@ -56,6 +64,6 @@ start-within columns empty =
     record {
       must-long = length-listOf (columns .count) (columns .mustLimit);
       may-long = length-listOf (columns .count) (λ block. cond empty (columns .mayLimit block) 0);
-      must-most = λ block h. omega (arith, getD-listOf (columns .count) (columns .mustLimit) 0 block h);
-      may-most = λ block h. rw (getD-listOf (columns .count) (λ i. cond empty (columns .mayLimit i) 0) 0 block h) (start-may-within empty (columns .mayLimit block));
+      must-most = λ block h. omega (arith, start-must columns empty block h);
+      may-most = λ block h. rw (start-may columns empty block h) (start-may-within empty (columns .mayLimit block));
     }

@@ -1,4 +1,4 @@
--- "Tighter" is an order of states.
+-- `Tighter` is an order of states.
 use mathlib.Core.List.{List}
 use mathlib.Core.Path.{_≡_, sym, _∙_}
 use Prim.Native.Nat.{ℕ, _≤_, _<_}

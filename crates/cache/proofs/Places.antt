@@ -9,7 +9,7 @@ use borrow.Author.Tests.{eq-eqb, ne-eqb, eqb-true, eqb-false}
 use lib.Dec.{eqb}
 use lib.ListN.{length, take, length-take}
 use Rattle.cache.specs.Plain.{has, without, touchSet, ageIn, Absent, Different, AllOf}
-use Rattle.cache.proofs.Growing.{Aged}
+use Rattle.cache.specs.Laws.{Aged}
 
 -- ---- ages, by the first of the list
 
@@ -22,7 +22,7 @@ age-there : (ways x block : ℕ) (l : List ℕ) → (x ≡ block → ⊥) → ag
 unfolding ageIn
 age-there ways x block l e = rw (ne-eqb x block e)
 
--- "an absent block has age A"
+-- Rule 4.5, where the list has no block.
 pub age-empty : (ways block : ℕ) → ageIn ways [] block ≡ ways
 unfolding ageIn
 age-empty zero block = refl
@@ -93,14 +93,14 @@ module _ (m block : ℕ) (apart : block ≡ m → ⊥) where
         older = λ h. omega (arith, rest ways .older (omega arith));
       }
 
-  moved : (ways : ℕ) (l : List ℕ) → Moved ways l
+  touch-moves : (ways : ℕ) (l : List ℕ) → Moved ways l
   unfolding without
-  moved ways [] =
+  touch-moves ways [] =
       record {
         younger = λ h. absurd (omega (arith, age-empty (suc ways) m, age-empty (suc ways) block));
         older = λ h. omega (arith, age-empty ways block, age-empty (suc ways) block);
       }
-  moved ways (x ∷ l) = go (ℕ-discrete x m) (ℕ-discrete x block) (λ k. moved k l)
+  touch-moves ways (x ∷ l) = go (ℕ-discrete x m) (ℕ-discrete x block) (λ k. touch-moves k l)
     where
       go : Dec (x ≡ m) → Dec (x ≡ block) → ((k : ℕ) → Moved k l) → Moved ways (x ∷ l)
       go (yes p) d rest =
@@ -115,22 +115,22 @@ module _ (m block : ℕ) (apart : block ≡ m → ⊥) where
           record { younger = λ h. omega arith; older = λ h. absurd (omega arith) }
       go (no p) (no q) rest = moved-past ways x l p q rest
 
-  -- "Afterwards that block is first, the others keep their order": a younger block grows by one, an older one stays.
-  pub touched-ages : (ways : ℕ) (l : List ℕ) → Aged (ageIn ways l m) (ageIn ways l block) (ageIn ways (touchSet ways m l) block)
+  -- Rule 4.3, as ages: a younger block grows by one, an older one stays.
+  pub touch-ages : (ways : ℕ) (l : List ℕ) → Aged (ageIn ways l m) (ageIn ways l block) (ageIn ways (touchSet ways m l) block)
   unfolding touchSet ageIn
-  touched-ages zero l = record { younger = λ h. absurd (omega arith); older = λ h. refl }
-  touched-ages (suc ways) l =
+  touch-ages zero l = record { younger = λ h. absurd (omega arith); older = λ h. refl }
+  touch-ages (suc ways) l =
       let after : ageIn (suc ways) (touchSet (suc ways) m l) block ≡ suc (ageIn ways (without m l) block) = age-take (suc ways) block (m ∷ without m l) ∙ age-there ways m block (without m l) (λ q. apart (sym q)) in
       record {
-        younger = λ h. after ∙ moved ways l .younger h;
-        older = λ h. after ∙ moved ways l .older h;
+        younger = λ h. after ∙ touch-moves ways l .younger h;
+        older = λ h. after ∙ touch-moves ways l .older h;
       }
 
-pub touched-first : (ways m : ℕ) (l : List ℕ) → ageIn ways (touchSet ways m l) m ≡ 0
+pub touch-first : (ways m : ℕ) (l : List ℕ) → ageIn ways (touchSet ways m l) m ≡ 0
 unfolding touchSet
-touched-first ways m l = age-take ways m (m ∷ without m l) ∙ age-here ways m m (without m l) refl
+touch-first ways m l = age-take ways m (m ∷ without m l) ∙ age-here ways m m (without m l) refl
 
--- ---- "at most A different blocks of that set"
+-- ---- a touch keeps rule 4.1
 
 absent-without : (m block : ℕ) (l : List ℕ) → Absent block l → Absent block (without m l)
 unfolding without
@@ -170,9 +170,9 @@ different-take zero l h = tt
 different-take (suc n) [] h = tt
 different-take (suc n) (x ∷ l) h = (absent-take n x l (h .0), different-take n l (h .1))
 
-pub touched-different : (ways m : ℕ) (l : List ℕ) → Different l → Different (touchSet ways m l)
+pub touch-different : (ways m : ℕ) (l : List ℕ) → Different l → Different (touchSet ways m l)
 unfolding touchSet
-touched-different ways m l h = different-take ways (m ∷ without m l) (taken-out m l h, different-without m l h)
+touch-different ways m l h = different-take ways (m ∷ without m l) (taken-out m l h, different-without m l h)
 
 module _ (key : ℕ → ℕ) (set : ℕ) where
   own-without : (m : ℕ) (l : List ℕ) → AllOf key set l → AllOf key set (without m l)
@@ -189,13 +189,13 @@ module _ (key : ℕ → ℕ) (set : ℕ) where
   own-take (suc n) [] h = tt
   own-take (suc n) (x ∷ l) h = (h .0, own-take n l (h .1))
 
-  pub touched-own : (ways m : ℕ) (l : List ℕ) → key m ≡ set → AllOf key set l → AllOf key set (touchSet ways m l)
+  pub touch-own : (ways m : ℕ) (l : List ℕ) → key m ≡ set → AllOf key set l → AllOf key set (touchSet ways m l)
   unfolding touchSet
-  touched-own ways m l e h = own-take ways (m ∷ without m l) (e, own-without m l h)
+  touch-own ways m l e h = own-take ways (m ∷ without m l) (e, own-without m l h)
 
-pub touched-short : (ways m : ℕ) (l : List ℕ) → length (touchSet ways m l) ≤ ways
+pub touch-short : (ways m : ℕ) (l : List ℕ) → length (touchSet ways m l) ≤ ways
 unfolding touchSet
-touched-short ways m l = simp length-take (omega arith)
+touch-short ways m l = simp length-take (omega arith)
 
 -- ---- hits
 

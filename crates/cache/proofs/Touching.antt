@@ -36,25 +36,25 @@ module _ (key : ℕ → ℕ) (m block : ℕ) where
       (λ e. may-grown-within (limit block) (age m) (age block) p)
       p
 
-  module _ (f g : ℕ → ℕ) (touched : f m ≤ g m) (here : f block ≤ g block) where
+  module _ (f g : ℕ → ℕ) (at-m : f m ≤ g m) (here : f block ≤ g block) where
     must-monotone : mustAfter key m f block ≤ mustAfter key m g block
     unfolding mustAfter
     must-monotone =
         three-monotone (eqb block m) (eqb (key block) (key m)) (mustGrown (f m) (f block)) (mustGrown (g m) (g block)) (f block) (g block)
-        (grown-monotone (f m) (g m) (f block) (g block) touched here)
+        (grown-monotone (f m) (g m) (f block) (g block) at-m here)
         here
 
     may-monotone : (limit : ℕ → ℕ) → f block ≤ limit block → mayAfter key limit m f block ≤ mayAfter key limit m g block
     unfolding mayAfter
     may-monotone limit l =
         three-monotone (eqb block m) (eqb (key block) (key m)) (mayGrown (limit block) (f m) (f block)) (mayGrown (limit block) (g m) (g block)) (f block) (g block)
-        (may-grown-monotone (limit block) (f m) (g m) (f block) (g block) l touched here)
+        (may-grown-monotone (limit block) (f m) (g m) (f block) (g block) l at-m here)
         here
 
 -- ---- a state
 
 -- The columns of one set have one must limit.
-abbrev pub LimitOfSet : Columns → Type 0
+abbrev LimitOfSet : Columns → Type 0
 LimitOfSet columns = (i j : ℕ) → i < columns .count → j < columns .count → columns .key i ≡ columns .key j → columns .mustLimit i ≡ columns .mustLimit j
 
 module _ (columns : Columns) (m : ℕ) where

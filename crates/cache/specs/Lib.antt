@@ -1,3 +1,5 @@
 pub mod Plain
 pub mod Ages
 pub mod Bounds
+pub mod Published
+pub mod Laws

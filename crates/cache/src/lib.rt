@@ -1,1 +1,1 @@
-// The plain cache, and must and may ages of one touch: definitions and their laws, no code.
+// The plain cache, and the must and may ages that bound it: definitions and their laws, no code.

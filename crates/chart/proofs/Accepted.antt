@@ -20,29 +20,29 @@ use Rattle.chart.specs.Layout.{chartLength}
 use Rattle.chart.specs.Geometry.{mostNodes, mostBlocks, mostSetBits, mostWays, shapeAllowed}
 use Rattle.chart.specs.Header.{headerIn}
 use Rattle.chart.specs.Record.{Leads, Touch}
-use Rattle.chart.specs.Chart.{Chart, accepted, refused, recordsIn, chartIn, chartRules, readChart, blockCount, brokenAt, firstBroken, overfullAt, firstOverfull, blocksAt, touches}
-use Rattle.chart.proofs.Rules.{between-both, line-bounds, sets-bound, ways-bounds, keeps-leads}
+use Rattle.chart.specs.Chart.{Chart, accepted, refused, recordsIn, chartIn, chartCases, readChart, blockCount, brokenAt, firstBroken, overfullAt, firstOverfull, blocksAt, touches}
+use Rattle.chart.proofs.Allowed.{between-both, line-bounds, sets-bound, ways-bounds, keeps-leads}
 
 module _ (bytes : List ℕ) (chart : Chart) (read : readChart bytes ≡ accepted chart) where
-  accepted-none : NoneApplies (chartRules bytes)
+  accepted-none : NoneApplies (chartCases bytes)
   unfolding readChart
   accepted-none =
-      none-applies refused (chartRules bytes) (accepted (chartIn bytes)) (accepted chart) (λ x q. let z : _≡_ {A = ℕ} 0 1 = cc in omega arith) read
+      none-applies refused (chartCases bytes) (accepted (chartIn bytes)) (accepted chart) (λ x q. let z : _≡_ {A = ℕ} 0 1 = cc in omega arith) read
 
   pub accepted-chart : chart ≡ chartIn bytes
   unfolding readChart
   accepted-chart =
-      let same : accepted (chartIn bytes) ≡ accepted chart = sym (first-otherwise refused (chartRules bytes) (accepted (chartIn bytes)) accepted-none) ∙ read in
+      let same : accepted (chartIn bytes) ≡ accepted chart = sym (first-otherwise refused (chartCases bytes) (accepted (chartIn bytes)) accepted-none) ∙ read in
       cc
 
   pub accepted-length : length bytes ≡ chartLength (chart .header .nodes)
   accepted-length = rw accepted-chart (eqb-true (length bytes) (chartLength (headerIn bytes .nodes)) (not-false _ (accepted-none .1 .1 .1 .1 .1 .1 .1 .0)))
 
-  counted : (1 ≤ headerIn bytes .nodes) × (headerIn bytes .nodes ≤ mostNodes)
-  counted = between-both 1 mostNodes (headerIn bytes .nodes) (not-false _ (accepted-none .1 .1 .1 .1 .0))
+  nodes-between : (1 ≤ headerIn bytes .nodes) × (headerIn bytes .nodes ≤ mostNodes)
+  nodes-between = between-both 1 mostNodes (headerIn bytes .nodes) (not-false _ (accepted-none .1 .1 .1 .1 .0))
 
   pub accepted-nodes : chart .header .nodes ≤ mostNodes
-  accepted-nodes = rw accepted-chart (counted .1)
+  accepted-nodes = rw accepted-chart (nodes-between .1)
 
   pub accepted-entry : chart .header .entry < chart .header .nodes
   accepted-entry = rw accepted-chart (leb-false (headerIn bytes .nodes) (headerIn bytes .entry) (accepted-none .1 .1 .1 .1 .1 .0))
@@ -63,12 +63,12 @@ module _ (bytes : List ℕ) (chart : Chart) (read : readChart bytes ≡ accepted
   abbrev brought : ℕ → List ℕ
   brought = blocksAt (headerIn bytes .geometry) (recordsIn bytes)
 
-  -- "There may be 0 to 64 of them": the last of the nodes, of which there is one at least, does not bring too many.
+  -- Rule 3.4, its limit: the last of the nodes, of which there is one at least, does not bring too many.
   pub accepted-few : blockCount chart ≤ mostBlocks
   unfolding firstOverfull overfull
   accepted-few =
       let header : Header = headerIn bytes in
-      let some : 0 < header .nodes = omega (arith, counted) in
+      let some : 0 < header .nodes = omega (arith, nodes-between) in
       let last = none-passes (header .nodes) (overfullAt (header .geometry) (recordsIn bytes)) (accepted-none .1 .1 .1 .1 .1 .1 .1 .1 .1 .0) (header .nodes - 1) (omega arith) in
       let most = ltb-false mostBlocks (length (gathered brought (suc (header .nodes - 1)))) last in
       let all : suc (header .nodes - 1) ≡ header .nodes = omega arith in

@@ -15,7 +15,7 @@ use Rattle.refusals.specs.declared.Refusal.{Refusal}
 use Rattle.chart.specs.Geometry.{mostNodes, mostBlocks, mostSetBits}
 use Rattle.chart.specs.Chart.{Chart, Read, accepted, refused, readChart, chartIn, blockCount}
 use Rattle.chart.specs.Reading.{readingOf, reading}
-use Rattle.chart.specs.Inner.{Found}
+use Rattle.chart.specs.Inner.{AcceptedAs}
 use Rattle.chart.specs.Layout.{chartLength}
 use Rattle.chart.proofs.Accepted.{accepted-chart, accepted-nodes, accepted-sets, accepted-entry, accepted-length, accepted-few, accepted-ascending}
 
@@ -23,11 +23,11 @@ module _ (bytes : List ℕ) (answer : Reading) (answered : answer ≡ reading by
   verdict-of : (r : Read) → readChart bytes ≡ r → answer ≡ readingOf r
   verdict-of r e = answered ∙ ap readingOf e
 
-  pub reader-accepts : (header : Header) (count : ℕ) → answer .verdict ≡ verdict.Accepted header count → Found bytes header count (answer .blocks)
+  pub reader-accepts : (header : Header) (count : ℕ) → answer .verdict ≡ verdict.Accepted header count → AcceptedAs bytes header count (answer .blocks)
   unfolding readingOf
   reader-accepts header count q = go (readChart bytes) refl
     where
-      go : (r : Read) → readChart bytes ≡ r → Found bytes header count (answer .blocks)
+      go : (r : Read) → readChart bytes ≡ r → AcceptedAs bytes header count (answer .blocks)
       go (accepted chart) e =
           let same : verdict.Accepted header count ≡ verdict.Accepted (chart .header) (blockCount chart) = sym q ∙ ap (λ (a : Reading). a .verdict) (verdict-of (accepted chart) e) in
           let is : chart ≡ chartIn bytes = accepted-chart bytes chart e in
@@ -60,7 +60,7 @@ module _ (bytes : List ℕ) (answer : Reading) (answered : answer ≡ reading by
 
 -- ---- what follows of such findings
 
-module _ {bytes : List ℕ} {header : Header} {count : ℕ} {array : List ℕ} (found : Found bytes header count array) where
+module _ {bytes : List ℕ} {header : Header} {count : ℕ} {array : List ℕ} (found : AcceptedAs bytes header count array) where
   abbrev chart : Chart
   chart = chartIn bytes
 

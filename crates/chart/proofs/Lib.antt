@@ -1,5 +1,5 @@
 pub mod Numbers
-pub mod Rules
+pub mod Allowed
 pub mod Reader
 pub mod Accepted
 pub mod Answers

@@ -7,7 +7,7 @@ use native.Mathlib.Omega.{arith}
 use borrow.Author.Tests.{lt-ltb, le-ltb, ltb-false, eqb-true, not-false}
 use lib.Dec.{ltb}
 use lib.ListN.{length, take}
-use Rattle.lists.specs.Choice.{Rule, NoneApplies, firstFrom, first}
+use Rattle.lists.specs.Choice.{Case, NoneApplies, firstFrom, first}
 use Rattle.lists.specs.Lists.{padded}
 use Rattle.lists.proofs.Choice.{none-applies, first-otherwise, first-after, first-applies, applies-first, first-front, first-found, first-ends}
 use Rattle.blocks.specs.Blocks.{insertAll, gathered}
@@ -23,14 +23,14 @@ use Rattle.chart.specs.declared.records.RecordFields.{RecordFields}
 use Rattle.refusals.specs.declared.Refusal.{Refusal}
 use Rattle.refusals.specs.declared.Refusal.the-variants.{BrokenRecord, TooManyBlocks}
 use Rattle.chart.specs.declared.shape.Geometry.{Geometry}
-use Rattle.chart.specs.Chart.{accepted, refused, blocksAt, chartOf, firstBroken, overfullAt, firstOverfull, recordRules, recordsRead, recordsIn, chartIn, chartRules, readChart}
+use Rattle.chart.specs.Chart.{accepted, refused, blocksAt, chartOf, firstBroken, overfullAt, firstOverfull, recordCases, recordsRead, recordsIn, chartIn, chartCases, readChart}
 use Rattle.chart.specs.Geometry.{mostNodes, mostBlocks}
-use Rattle.chart.specs.Header.{headerIn, bytesRules, headerRead}
+use Rattle.chart.specs.Header.{headerIn, bytesCases, headerRead}
 use Rattle.chart.specs.Layout.{chartLength}
 use Rattle.chart.specs.Record.{recordOf, touchesOf, blocksOf}
 use Rattle.chart.specs.Reading.{readingOf}
 use Rattle.chart.specs.Inner.{Gathers}
-use Rattle.chart.proofs.Rules.{between-both}
+use Rattle.chart.proofs.Allowed.{between-both}
 
 -- ---- the blocks of all nodes, or the first node that brings one too many
 
@@ -87,9 +87,9 @@ module _ (fieldsAt : ℕ → RecordFields) (header : Header) (broken : ℕ) (fou
         go true d = cc
         go false d = let z : _≡_ {A = ℕ} 0 1 = cc in absurd (omega arith)
 
-    pub records-kept : (count : ℕ) → answer ≡ Blocks count → record { verdict = verdict.Accepted header count; blocks = array } ≡ readingOf (recordsRead fieldsAt header)
+    pub records-keep : (count : ℕ) → answer ≡ Blocks count → record { verdict = verdict.Accepted header count; blocks = array } ≡ readingOf (recordsRead fieldsAt header)
     unfolding readingOf
-    records-kept count q = sym (ap readingOf unbroken ∙ go (ltb over (header .nodes)) (sym (gathers .answered) ∙ q) (gathers .laid))
+    records-keep count q = sym (ap readingOf unbroken ∙ go (ltb over (header .nodes)) (sym (gathers .answered) ∙ q) (gathers .laid))
       where
         go : (t : Bool) → cond t (TooMany over) (Blocks (length blocks)) ≡ Blocks count
             → (t ≡ false → array ≡ padded mostBlocks blocks)
@@ -105,20 +105,20 @@ module _ (fieldsAt : ℕ → RecordFields) (header : Header) (broken : ℕ) (fou
 pub read-refuses : (bytes : List ℕ) (refusal : Refusal) → headerRead bytes ≡ read.Refused refusal → readChart bytes ≡ refused refusal
 unfolding headerRead readChart
 read-refuses bytes refusal e =
-    let rules : List (Rule Refusal) = bytesRules bytes in
-    let first-one = applies-first read.Refused rules (read.Accepted (headerIn bytes)) refusal (λ a b q. cc) (λ q. let z : _≡_ {A = ℕ} 0 1 = cc in omega arith) e in
-    first-applies refused (chartRules bytes) (accepted (chartIn bytes)) refusal
-    (first-front rules (recordRules (recordsIn bytes) (headerIn bytes)) refusal first-one)
+    let cases : List (Case Refusal) = bytesCases bytes in
+    let first-one = applies-first read.Refused cases (read.Accepted (headerIn bytes)) refusal (λ a b q. cc) (λ q. let z : _≡_ {A = ℕ} 0 1 = cc in omega arith) e in
+    first-applies refused (chartCases bytes) (accepted (chartIn bytes)) refusal
+    (first-front cases (recordCases (recordsIn bytes) (headerIn bytes)) refusal first-one)
 
 module _ (bytes : List ℕ) (header : Header) (taken : headerRead bytes ≡ read.Accepted header) where
-  no-refusal : NoneApplies (bytesRules bytes)
+  no-refusal : NoneApplies (bytesCases bytes)
   unfolding headerRead
-  no-refusal = none-applies read.Refused (bytesRules bytes) (read.Accepted (headerIn bytes)) (read.Accepted header) (λ x q. let z : _≡_ {A = ℕ} 0 1 = cc in omega arith) taken
+  no-refusal = none-applies read.Refused (bytesCases bytes) (read.Accepted (headerIn bytes)) (read.Accepted header) (λ x q. let z : _≡_ {A = ℕ} 0 1 = cc in omega arith) taken
 
   pub read-header : headerIn bytes ≡ header
   unfolding headerRead
   read-header =
-      let e : read.Accepted (headerIn bytes) ≡ read.Accepted header = sym (first-otherwise read.Refused (bytesRules bytes) (read.Accepted (headerIn bytes)) no-refusal) ∙ taken in
+      let e : read.Accepted (headerIn bytes) ≡ read.Accepted header = sym (first-otherwise read.Refused (bytesCases bytes) (read.Accepted (headerIn bytes)) no-refusal) ∙ taken in
       cc
 
   pub read-length : length bytes ≡ chartLength (header .nodes)
@@ -134,5 +134,5 @@ module _ (bytes : List ℕ) (header : Header) (taken : headerRead bytes ≡ read
   pub read-accepts : readChart bytes ≡ recordsRead (recordsIn bytes) header
   unfolding readChart
   read-accepts =
-      first-after refused (bytesRules bytes) (recordRules (recordsIn bytes) (headerIn bytes)) (accepted (chartIn bytes)) no-refusal
+      first-after refused (bytesCases bytes) (recordCases (recordsIn bytes) (headerIn bytes)) (accepted (chartIn bytes)) no-refusal
       ∙ ap (recordsRead (recordsIn bytes)) read-header

@@ -16,7 +16,7 @@ use Rattle.blocks.specs.Blocks.{gathered, overfull}
 use Rattle.chart.specs.declared.records.Record.the-variants.{Step, Reference}
 use Rattle.chart.specs.declared.shape.Geometry.{Geometry}
 use Rattle.refusals.specs.declared.Refusal.{Refusal}
-use Rattle.refusals.specs.declared.Refusal.the-variants.{TooShort, Edition, Shape, StartCode, NodeCount, EntryNode, SpareBits, Length, BrokenRecord, TooManyBlocks, ShortBuffer, Unsettled, NotPassing, BoundsLength, Costs, FloorAboveCeiling, FloorAtUnmarked}
+use Rattle.refusals.specs.declared.Refusal.the-variants.{TooShort, Edition, CacheShape, StartCode, NodeCount, EntryNode, SpareBits, Length, BrokenRecord, TooManyBlocks, ShortBuffer, Unsettled, NotPassing, BoundsLength, MissBelowHit, FloorAboveCeiling, FloorAtUnmarked}
 use Rattle.refusals.specs.Refusals.{numberOf}
 use Rattle.chart.specs.declared.headers.HeaderFields.{HeaderFields}
 use Rattle.chart.specs.declared.records.RecordFields.{RecordFields}
@@ -24,9 +24,9 @@ use Rattle.chart.specs.Geometry.{mostNodes, mostBlocks, mostSetBits, mos
 use Rattle.chart.specs.Layout.{chartLength}
 use Rattle.chart.specs.Header.{geometryOf, fieldsIn, headerIn}
 use Rattle.chart.specs.Record.{arrowKeeps, recordKeeps, recordOf, touchesOf, blocksOf}
-use Rattle.chart.specs.Chart.{Chart, accepted, refused, recordsIn, brokenAt, firstBroken, overfullAt, firstOverfull, blocksAt, chartIn, chartRules, readChart}
+use Rattle.chart.specs.Chart.{Chart, accepted, refused, recordsIn, brokenAt, firstBroken, overfullAt, firstOverfull, blocksAt, chartIn, chartCases, readChart}
 use Rattle.chart.specs.Bytes.{AreBytes, headerBytes, recordBytes}
-use Rattle.chart.specs.Refusing.{ShapeKept, RecordKept, nodesSaid, FirstBroken, blocksSaid, blocksBefore, FirstOver, Applies}
+use Rattle.chart.specs.Refusing.{ShapeKeeps, RecordKeeps, nodesSaid, FirstBroken, blocksSaid, blocksBefore, FirstOver, Applies}
 use Rattle.lists.proofs.Telling.{tells-ltb, tells-leb, tells-eqb, tells-not, tells-and, tells-same, tells-if, holds-true, fails-false, first-only, first-given, none-given, none-only}
 use Rattle.blocks.proofs.Exact.{gathered-same, gathered-longer}
 use Rattle.chart.proofs.Bytes.{header-bytes, record-bytes}
@@ -42,10 +42,10 @@ true-not t e = rw e
 tells-between : (least most n : ℕ) → Tells (between least most n) ((least ≤ n) × (n ≤ most))
 tells-between least most n = tells-and (leb least n) (leb n most) (least ≤ n) (n ≤ most) (tells-leb least n) (tells-leb n most)
 
-tells-shape : (fields : HeaderFields) → Tells (shapeAllowed (geometryOf fields)) (ShapeKept fields)
+tells-shape : (fields : HeaderFields) → Tells (shapeAllowed (geometryOf fields)) (ShapeKeeps fields)
 unfolding shapeAllowed
 tells-shape fields =
-    tells-same _ _ (ShapeKept fields)
+    tells-same _ _ (ShapeKeeps fields)
     (λ h. record { line-from = h .0 .0; line-to = h .0 .1; sets-to = h .1 .0 .1; ways-from = h .1 .1 .0; ways-to = h .1 .1 .1 })
     (λ k. ((k .line-from, k .line-to), ((omega arith, k .sets-to), (k .ways-from, k .ways-to))))
     (tells-and _ _ _ _ (tells-between 2 8 (fields .line))
@@ -63,10 +63,10 @@ tells-arrow nodes least outs target = go (ltb least outs) refl
         let unused = ltb-false least outs e in
         tells-same (eqb target 0) (target ≡ 0) _ (λ h. ((λ k. absurd (omega arith)), λ _. h)) (λ h. h .1 unused) (tells-eqb target 0)
 
-tells-record : (nodes : ℕ) (fields : RecordFields) → Tells (recordKeeps nodes fields) (RecordKept nodes fields)
+tells-record : (nodes : ℕ) (fields : RecordFields) → Tells (recordKeeps nodes fields) (RecordKeeps nodes fields)
 unfolding recordKeeps
 tells-record nodes fields =
-    tells-same _ _ (RecordKept nodes fields)
+    tells-same _ _ (RecordKeeps nodes fields)
     (λ h. record {
       kinds = h .0;
       addresses = h .1 .0;
@@ -120,10 +120,10 @@ module _ (bytes : List ℕ) (small : AreBytes bytes) where
 
   -- ---- the first node whose record breaks its rules
 
-  tells-kept : (n : ℕ) → Tells (recordKeeps (fieldsIn bytes .nodes) (recordsIn bytes n)) (RecordKept (nodesSaid bytes) (recordBytes bytes n))
-  tells-kept n =
-      subst (λ (f : RecordFields). Tells (recordKeeps (fieldsIn bytes .nodes) f) (RecordKept (nodesSaid bytes) (recordBytes bytes n))) (sym (record-bytes bytes small n))
-      (subst (λ (k : ℕ). Tells (recordKeeps k (recordBytes bytes n)) (RecordKept (nodesSaid bytes) (recordBytes bytes n))) (sym nodes-said)
+  tells-keeps : (n : ℕ) → Tells (recordKeeps (fieldsIn bytes .nodes) (recordsIn bytes n)) (RecordKeeps (nodesSaid bytes) (recordBytes bytes n))
+  tells-keeps n =
+      subst (λ (f : RecordFields). Tells (recordKeeps (fieldsIn bytes .nodes) f) (RecordKeeps (nodesSaid bytes) (recordBytes bytes n))) (sym (record-bytes bytes small n))
+      (subst (λ (k : ℕ). Tells (recordKeeps k (recordBytes bytes n)) (RecordKeeps (nodesSaid bytes) (recordBytes bytes n))) (sym nodes-said)
       (tells-record (nodesSaid bytes) (recordBytes bytes n)))
 
   abbrev broken : ℕ → Bool
@@ -135,15 +135,15 @@ module _ (bytes : List ℕ) (small : AreBytes bytes) where
       let here : broken (first (fieldsIn bytes .nodes) broken) ≡ true = first-test (fieldsIn bytes .nodes) broken (omega arith) in
       record {
         inside = omega (arith, nodes-said);
-        breaks = λ k. tells-kept n .1 (not-true _ (rw e at here)) k;
-        earlier = λ i k. tells-kept i .0 (not-false _ (tests i k));
+        breaks = λ k. tells-keeps n .1 (not-true _ (rw e at here)) k;
+        earlier = λ i k. tells-keeps i .0 (not-false _ (tests i k));
       }
 
   broken-found : (n : ℕ) → FirstBroken bytes n → first (fieldsIn bytes .nodes) broken ≡ n
   broken-found n h =
       first-is (fieldsIn bytes .nodes) broken n (omega (arith, h .inside, nodes-said))
-      (false-not _ (fails-false _ _ (tells-kept n) (h .breaks)))
-      (λ i k. true-not _ (holds-true _ _ (tells-kept i) (h .earlier i k)))
+      (false-not _ (fails-false _ _ (tells-keeps n) (h .breaks)))
+      (λ i k. true-not _ (holds-true _ _ (tells-keeps i) (h .earlier i k)))
 
   -- ---- the first node that brings a block too many
 
@@ -183,7 +183,7 @@ module _ (bytes : List ℕ) (small : AreBytes bytes) where
 
   -- ---- all ten
 
-  all-tell : AllTell (Applies bytes) (chartRules bytes)
+  all-tell : AllTell (Applies bytes) (chartCases bytes)
   unfolding firstBroken firstOverfull
   all-tell = (
     tells-ltb (length bytes) 8,
@@ -218,52 +218,52 @@ module _ (bytes : List ℕ) (small : AreBytes bytes) where
     ),
   )
 
-  numbered : Numbered numberOf 0 (chartRules bytes)
-  numbered =
+  cases-numbered : Numbered numberOf 0 (chartCases bytes)
+  cases-numbered =
       (omega arith, (omega arith, (omega arith, (omega arith, (omega arith, (omega arith, (omega arith, (omega arith, (omega arith, (omega arith, tt))))))))))
 
-  answered : (refusal : Refusal) → Applies bytes refusal → Answered refusal (chartRules bytes)
+  applies-answered : (refusal : Refusal) → Applies bytes refusal → Answered refusal (chartCases bytes)
   unfolding firstBroken firstOverfull
-  answered TooShort h = inl refl
-  answered Edition h = inr (inl refl)
-  answered Shape h = inr (inr (inl refl))
-  answered StartCode h = inr (inr (inr (inl refl)))
-  answered NodeCount h = inr (inr (inr (inr (inl refl))))
-  answered EntryNode h = inr (inr (inr (inr (inr (inl refl)))))
-  answered SpareBits h = inr (inr (inr (inr (inr (inr (inl refl))))))
-  answered Length h = inr (inr (inr (inr (inr (inr (inr (inl refl)))))))
-  answered (BrokenRecord n) h = inr (inr (inr (inr (inr (inr (inr (inr (inl (ap BrokenRecord (broken-found n h))))))))))
-  answered (TooManyBlocks n) h = inr (inr (inr (inr (inr (inr (inr (inr (inr (inl (ap TooManyBlocks (over-found n h)))))))))))
-  answered ShortBuffer h = absurd h
-  answered Unsettled h = absurd h
-  answered NotPassing h = absurd h
-  answered BoundsLength h = absurd h
-  answered Costs h = absurd h
-  answered (FloorAboveCeiling n) h = absurd h
-  answered (FloorAtUnmarked n) h = absurd h
+  applies-answered TooShort h = inl refl
+  applies-answered Edition h = inr (inl refl)
+  applies-answered CacheShape h = inr (inr (inl refl))
+  applies-answered StartCode h = inr (inr (inr (inl refl)))
+  applies-answered NodeCount h = inr (inr (inr (inr (inl refl))))
+  applies-answered EntryNode h = inr (inr (inr (inr (inr (inl refl)))))
+  applies-answered SpareBits h = inr (inr (inr (inr (inr (inr (inl refl))))))
+  applies-answered Length h = inr (inr (inr (inr (inr (inr (inr (inl refl)))))))
+  applies-answered (BrokenRecord n) h = inr (inr (inr (inr (inr (inr (inr (inr (inl (ap BrokenRecord (broken-found n h))))))))))
+  applies-answered (TooManyBlocks n) h = inr (inr (inr (inr (inr (inr (inr (inr (inr (inl (ap TooManyBlocks (over-found n h)))))))))))
+  applies-answered ShortBuffer h = absurd h
+  applies-answered Unsettled h = absurd h
+  applies-answered NotPassing h = absurd h
+  applies-answered BoundsLength h = absurd h
+  applies-answered MissBelowHit h = absurd h
+  applies-answered (FloorAboveCeiling n) h = absurd h
+  applies-answered (FloorAtUnmarked n) h = absurd h
 
   -- ---- the first that applies is given, and only that
 
   pub refuses-first : (refusal : Refusal) → readChart bytes ≡ refused refusal → Applies bytes refusal × ((other : Refusal) → numberOf other < numberOf refusal → Applies bytes other → ⊥)
   unfolding readChart
   refuses-first refusal e =
-      let rule : FirstApplies (chartRules bytes) refusal = applies-first refused (chartRules bytes) (accepted (chartIn bytes)) refusal (λ a b q. cc) (λ q. let z : _≡_ {A = ℕ} 0 1 = cc in omega arith) e in
-      let only = first-only numberOf (Applies bytes) 0 (chartRules bytes) numbered all-tell refusal rule in
-      (only .0, λ other less h. only .1 other (answered other h) less h)
+      let rule : FirstApplies (chartCases bytes) refusal = applies-first refused (chartCases bytes) (accepted (chartIn bytes)) refusal (λ a b q. cc) (λ q. let z : _≡_ {A = ℕ} 0 1 = cc in omega arith) e in
+      let only = first-only numberOf (Applies bytes) 0 (chartCases bytes) cases-numbered all-tell refusal rule in
+      (only .0, λ other less h. only .1 other (applies-answered other h) less h)
 
   pub first-refuses : (refusal : Refusal) → Applies bytes refusal → ((other : Refusal) → numberOf other < numberOf refusal → Applies bytes other → ⊥) → readChart bytes ≡ refused refusal
   unfolding readChart
   first-refuses refusal h none =
-      first-applies refused (chartRules bytes) (accepted (chartIn bytes)) refusal
-      (first-given numberOf (Applies bytes) 0 (chartRules bytes) numbered all-tell refusal (answered refusal h) h none)
+      first-applies refused (chartCases bytes) (accepted (chartIn bytes)) refusal
+      (first-given numberOf (Applies bytes) 0 (chartCases bytes) cases-numbered all-tell refusal (applies-answered refusal h) h none)
 
   pub none-accepts : ((refusal : Refusal) → Applies bytes refusal → ⊥) → readChart bytes ≡ accepted (chartIn bytes)
   unfolding readChart
-  none-accepts none = first-otherwise refused (chartRules bytes) (accepted (chartIn bytes)) (none-given numberOf (Applies bytes) (chartRules bytes) all-tell none)
+  none-accepts none = first-otherwise refused (chartCases bytes) (accepted (chartIn bytes)) (none-given numberOf (Applies bytes) (chartCases bytes) all-tell none)
 
   pub accepts-none : (chart : Chart) → readChart bytes ≡ accepted chart → (refusal : Refusal) → Applies bytes refusal → ⊥
   unfolding readChart
   accepts-none chart e refusal h =
-      none-only numberOf (Applies bytes) (chartRules bytes) all-tell
-      (none-applies refused (chartRules bytes) (accepted (chartIn bytes)) (accepted chart) (λ x q. let z : _≡_ {A = ℕ} 0 1 = cc in omega arith) e)
-      refusal (answered refusal h) h
+      none-only numberOf (Applies bytes) (chartCases bytes) all-tell
+      (none-applies refused (chartCases bytes) (accepted (chartIn bytes)) (accepted chart) (λ x q. let z : _≡_ {A = ℕ} 0 1 = cc in omega arith) e)
+      refusal (applies-answered refusal h) h

@@ -34,8 +34,8 @@ header-says fields =
 
 module _ (geometry : Geometry) (fields : RecordFields) where
   -- What a record with these fields and another kind touches, and where one with another number of arrows leads.
-  abbrev touched : ℕ → List Touch
-  touched kind = touchesOf geometry (recordOf (record { kind = kind; address = fields .address; outs = fields .outs; first = fields .first; second = fields .second; spare = fields .spare }))
+  abbrev touchesOfKind : ℕ → List Touch
+  touchesOfKind kind = touchesOf geometry (recordOf (record { kind = kind; address = fields .address; outs = fields .outs; first = fields .first; second = fields .second; spare = fields .spare }))
 
   abbrev leads : ℕ → List ℕ
   leads outs = arrowsOf (record { outs = outs; first = fields .first; second = fields .second })
@@ -43,15 +43,15 @@ module _ (geometry : Geometry) (fields : RecordFields) where
   abbrev block : ℕ
   block = fields .address / 2 ^ geometry .line
 
-  step-touches : touched 0 ≡ []
+  step-touches : touchesOfKind 0 ≡ []
   unfolding recordOf touchesOf
   step-touches = refl
 
-  read-touches : touched 1 ≡ record { block = block; write = false } ∷ []
+  read-touches : touchesOfKind 1 ≡ record { block = block; write = false } ∷ []
   unfolding recordOf touchesOf blockOf
   read-touches = refl
 
-  write-touches : touched 2 ≡ record { block = block; write = true } ∷ []
+  write-touches : touchesOfKind 2 ≡ record { block = block; write = true } ∷ []
   unfolding recordOf touchesOf blockOf
   write-touches = refl
 
@@ -70,9 +70,9 @@ module _ (geometry : Geometry) (fields : RecordFields) where
   node-says : NodeSays fields (geometry .line) (touchesOf geometry (recordOf fields)) (arrowsOf (targetsOf fields))
   node-says =
       record {
-        step = λ e. ap touched e ∙ step-touches;
-        read = λ e. ap touched e ∙ read-touches;
-        write = λ e. ap touched e ∙ write-touches;
+        step = λ e. ap touchesOfKind e ∙ step-touches;
+        read = λ e. ap touchesOfKind e ∙ read-touches;
+        write = λ e. ap touchesOfKind e ∙ write-touches;
         no-arrow = λ e. ap leads e ∙ no-arrow-leads;
         one-arrow = λ e. ap leads e ∙ one-arrow-leads;
         two-arrows = λ e. ap leads e ∙ two-arrows-lead;

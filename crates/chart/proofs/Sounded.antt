@@ -11,20 +11,20 @@ use Rattle.chart.specs.Reading.{readingOf}
 use Rattle.chart.specs.Sounded.{chartFields, readOut, manyBlocks, ChartSounded}
 
 -- All that has to be seen through for a chart to be read.
-everything : Unit {0}
+all-unfolded : Unit {0}
 unfolding readingOf wordAt blockOf shapeAllowed recordKeeps recordOf arrowsOf touchesOf gathered overfull firstBroken firstOverfull readChart
-everything = tt
+all-unfolded = tt
 
 fields-hold : Hold chartFields
-unfolding everything
+unfolding all-unfolded
 fields-hold = refl
 
 all-blocks : readOut (manyBlocks 65) ≡ 0 ∷ 0 ∷ 64 ∷ []
-unfolding everything
+unfolding all-unfolded
 all-blocks = refl
 
 one-block-more : readOut (manyBlocks 66) ≡ 10 ∷ 65 ∷ 0 ∷ []
-unfolding everything
+unfolding all-unfolded
 one-block-more = refl
 
 pub chart-sounded : ChartSounded

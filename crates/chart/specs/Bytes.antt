@@ -1,16 +1,17 @@
--- A chart's fields a second time, byte by byte, from document 01's two tables alone: nothing here goes by words or widths, as `Layout.antt`
--- does. The two have to agree (proofs/Bytes.antt), so that a field read from the wrong bits is a contradiction.
+-- A chart's fields a second time, byte by byte. Rules 1.1, 1.2 and 2.1, from their tables alone: nothing here goes by words or widths, as
+-- `Layout.antt` does. The two have to agree (proofs/Bytes.antt), so that a field read from the wrong bits is a contradiction.
+-- Choices: a byte past the end counts as 0; a list may have any numbers, and the two agree where all are bytes (`AreBytes`).
 use Prim.Native.Nat.{ℕ, _+_, _*_, _/_, _%_, _<_}
 use mathlib.Core.List.{List}
 use lib.ListN.{getD}
 use Rattle.chart.specs.declared.headers.HeaderFields.{HeaderFields}
 use Rattle.chart.specs.declared.records.RecordFields.{RecordFields}
 
--- Each is a byte.
+-- Rule 1.1: each is a byte.
 abbrev pub AreBytes : List ℕ → Type 0
 AreBytes bytes = (k : ℕ) → getD bytes k 0 < 256
 
--- The header's eight bytes: edition 8 bits, L 4, S 4, A 4, start 2, spare 10, N 12, entry 12, spare 8.
+-- Rule 1.2: eight bytes as the header's fields. A byte that holds two of them is cut by a power of two.
 abbrev pub headerOfBytes : ℕ → ℕ → ℕ → ℕ → ℕ → ℕ → ℕ → ℕ → HeaderFields
 headerOfBytes a b c d e f g h =
     record {
@@ -25,6 +26,7 @@ headerOfBytes a b c d e f g h =
       «second_spare» = h;
     }
 
+-- Rule 1.1: the header is the first eight bytes.
 abbrev pub headerBytes : List ℕ → HeaderFields
 headerBytes bytes =
     headerOfBytes
@@ -37,7 +39,7 @@ headerBytes bytes =
     (getD bytes 6 0)
     (getD bytes 7 0)
 
--- A record's eight bytes: kind 2 bits, address 32, number of arrows 2, first arrow 12, second arrow 12, spare 4.
+-- Rule 2.1: eight bytes as a record's fields.
 abbrev pub recordOfBytes : ℕ → ℕ → ℕ → ℕ → ℕ → ℕ → ℕ → ℕ → RecordFields
 recordOfBytes a b c d e f g h =
     record {
@@ -49,10 +51,11 @@ recordOfBytes a b c d e f g h =
       spare = h % 16;
     }
 
--- Byte k of node n's record: the header has the first eight bytes, and each record eight.
+-- Rule 1.1: byte k of node n's record, behind the header and the records of the nodes before.
 abbrev pub recordByte : List ℕ → ℕ → ℕ → ℕ
 recordByte bytes n k = getD bytes (8 * (n + 1) + k) 0
 
+-- Rule 1.1: node n's record is eight bytes.
 abbrev pub recordBytes : List ℕ → ℕ → RecordFields
 recordBytes bytes n =
     recordOfBytes

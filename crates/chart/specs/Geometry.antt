@@ -1,47 +1,51 @@
--- The cache's shape and its limits. Document 01, "What a chart carries".
+-- The cache's shape, the limits, and the block and the set of an address. Rules 1.2 to 1.4, 3.1, 3.2, 9.6 and 11.3.
+-- Choices: the limits stand in the source too, as constants of `Geometry`, since a definition cannot name one; code that differs from these is
+-- not proved. `blockOf` and `setOf` answer for any shape.
 use Prim.Native.Nat.{ℕ, _+_, _*_, _/_, _%_, _^_}
 use mathlib.Core.Bool.{Bool, _&&_}
 use lib.Dec.{leb}
 use Rattle.chart.specs.declared.shape.Geometry.{Geometry}
 use Rattle.chart.specs.Layout.{chartLength}
 
--- "The largest node, block and way counts belong to the geometry's type and are named once": the constants of `Geometry`. These are the
--- same numbers for definitions, which cannot name a constant of the source; code that differs from them is not proved.
+-- Rule 1.4: the most nodes of a chart.
 abbrev pub mostNodes : ℕ
 mostNodes = 256
 
+-- Rule 1.4: the most blocks of a chart.
 abbrev pub mostBlocks : ℕ
 mostBlocks = 64
 
+-- Rule 1.4: the most ways of a set.
 abbrev pub mostWays : ℕ
 mostWays = 8
 
--- What follows of them: "a chart of up to 2,056 bytes"
+-- Rules 1.3 and 1.4: how long the largest chart is, 2,056 bytes.
 abbrev pub longestChart : ℕ
 longestChart = chartLength mostNodes
 
--- "It is at most N(1 + 2BA) + 1 with B blocks; for 256 nodes, 64 blocks and 8 ways that is 262,401."
+-- Rules 1.4 and 9.6: the passes that are enough for so many nodes, blocks and ways.
 abbrev pub passesFor : ℕ → ℕ → ℕ → ℕ
 passesFor nodes blocks ways = nodes * (1 + 2 * blocks * ways) + 1
 
+-- Rules 1.4 and 9.6: those that are enough for every chart, 262,401.
 abbrev pub allPasses : ℕ
 allPasses = passesFor mostNodes mostBlocks mostWays
 
--- The most that S may be: there are 2^S sets.
+-- Rule 1.2: the most that S may be.
 abbrev pub mostSetBits : ℕ
 mostSetBits = 8
 
--- "block = address / 2^L, rounded down"
+-- Rule 3.1: the block of an address.
 unfoldable pub blockOf : Geometry → ℕ → ℕ
 blockOf geometry address = address / 2 ^ geometry .line
 
--- "set = block mod 2^S"
+-- Rule 3.2: the set of a block.
 unfoldable pub setOf : Geometry → ℕ → ℕ
 setOf geometry block = block % 2 ^ geometry .sets
 
 abbrev pub between : ℕ → ℕ → ℕ → Bool
 between least most n = leb least n && leb n most
 
--- The table's "allowed": L from 2 to 8, S from 0 to 8, A from 1 to 8.
+-- Rules 1.2 and 11.3: whether L, S and A are allowed.
 unfoldable pub shapeAllowed : Geometry → Bool
 shapeAllowed geometry = between 2 8 (geometry .line) && (between 0 mostSetBits (geometry .sets) && between 1 mostWays (geometry .ways))

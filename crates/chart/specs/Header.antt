@@ -1,11 +1,13 @@
--- The header: its fields, what is allowed in each, and refusals 1 to 8.
--- Document 01, "What a chart carries" (the table of fields) and "When the tool says no" (rows 1 to 8).
+-- The header: its fields, what is allowed in each, refusals 1 to 8, and what reading it answers.
+-- Rules 1.1 to 1.3, 11.1 to 11.8, 12.1, 12.8 and 12.9.
+-- Choices: the tests are of any fields, whether or not a word can hold them; every start code but 0 reads as empty, and those above 1 are
+-- refused before; number and place are 0 where nothing is refused.
 use Prim.Native.Nat.{ℕ}
 use mathlib.Core.Bool.{Bool, not, cond, _&&_}
 use mathlib.Core.List.{List, [], _∷_}
 use lib.ListN.{length}
 use lib.Dec.{ltb, leb, eqb}
-use Rattle.lists.specs.Choice.{Rule, _⇒_, firstRule}
+use Rattle.lists.specs.Choice.{Case, _⇒_, firstCase}
 use Rattle.chart.specs.declared.shape.Geometry.{Geometry}
 use Rattle.chart.specs.declared.headers.Start.{Start}
 use Rattle.chart.specs.declared.headers.Start.the-variants.{Unknown, Empty}
@@ -14,12 +16,12 @@ use Rattle.chart.specs.declared.headers.Header.{Header}
 use Rattle.chart.specs.declared.headers.HeaderRead.{HeaderRead}
 use Rattle.chart.specs.declared.headers.HeaderRead.the-variants.{Accepted, Refused}
 use Rattle.refusals.specs.declared.Refusal.{Refusal}
-use Rattle.refusals.specs.declared.Refusal.the-variants.{TooShort, Edition, Shape, StartCode, NodeCount, EntryNode, SpareBits, Length}
+use Rattle.refusals.specs.declared.Refusal.the-variants.{TooShort, Edition, CacheShape, StartCode, NodeCount, EntryNode, SpareBits, Length}
 use Rattle.refusals.specs.Refusals.{numberOf, placeOf}
 use Rattle.chart.specs.Layout.{wordAt, chartLength, field, headerWidths}
 use Rattle.chart.specs.Geometry.{mostNodes, between, shapeAllowed}
 
--- The fields of the header's word, in the table's order.
+-- Rule 1.2: the fields of the header's word, in order.
 abbrev pub headerFields : ℕ → HeaderFields
 headerFields word =
     record {
@@ -34,18 +36,20 @@ headerFields word =
       «second_spare» = field headerWidths 8 word;
     }
 
+-- Rule 1.2: L, S and A.
 abbrev pub geometryOf : HeaderFields → Geometry
 geometryOf fields = record { line = fields .line; sets = fields .sets; ways = fields .ways }
 
--- "start: 0 unknown, 1 empty"
+-- Rule 1.2: the start of a code.
 abbrev pub startOf : ℕ → Start
 startOf code = cond (eqb code 0) Unknown Empty
 
--- The code of a start: `startOf`, backwards.
+-- Rule 1.2: the code of a start, `startOf` backwards.
 abbrev pub startCode : Start → ℕ
 startCode Unknown = 0
 startCode Empty = 1
 
+-- Rule 1.2: what the fields say; edition and spare bits have one allowed value, and say nothing.
 abbrev pub headerOf : HeaderFields → Header
 headerOf fields =
     record {
@@ -55,11 +59,11 @@ headerOf fields =
       entry = fields .entry;
     }
 
--- Rows 2 to 8 of the table, of any fields, whether or not a word can hold them. `long` says whether the length is N's.
-abbrev pub headerRules : HeaderFields → Bool → List (Rule Refusal)
-headerRules fields long =
+-- Rules 11.2 to 11.8, in their order. `long` says whether the length is N's.
+abbrev pub headerCases : HeaderFields → Bool → List (Case Refusal)
+headerCases fields long =
     (not (eqb (fields .edition) 1) ⇒ Edition)
-    ∷ (not (shapeAllowed (geometryOf fields)) ⇒ Shape)
+    ∷ (not (shapeAllowed (geometryOf fields)) ⇒ CacheShape)
     ∷ (ltb 1 (fields .start) ⇒ StartCode)
     ∷ (not (between 1 mostNodes (fields .nodes)) ⇒ NodeCount)
     ∷ (leb (fields .nodes) (fields .entry) ⇒ EntryNode)
@@ -67,24 +71,25 @@ headerRules fields long =
     ∷ (not long ⇒ Length)
     ∷ []
 
--- The fields that bytes begin with, and the header that they make.
+-- Rules 1.1 and 1.2: the fields that bytes begin with.
 abbrev pub fieldsIn : List ℕ → HeaderFields
 fieldsIn bytes = headerFields (wordAt bytes 0)
 
+-- Rule 1.2: the header that they make.
 abbrev pub headerIn : List ℕ → Header
 headerIn bytes = headerOf (fieldsIn bytes)
 
--- Rows 1 to 8, of any bytes.
-abbrev pub bytesRules : List ℕ → List (Rule Refusal)
-bytesRules bytes =
+-- Rules 11.1 to 11.8, of any bytes; the length is that of rule 1.3.
+abbrev pub bytesCases : List ℕ → List (Case Refusal)
+bytesCases bytes =
     (ltb (length bytes) 8 ⇒ TooShort)
-    ∷ headerRules (fieldsIn bytes) (eqb (length bytes) (chartLength (fieldsIn bytes .nodes)))
+    ∷ headerCases (fieldsIn bytes) (eqb (length bytes) (chartLength (fieldsIn bytes .nodes)))
 
--- What reading the header of any bytes answers.
+-- Rule 12.1, of the header alone: the first of refusals 1 to 8 that applies, or the header.
 unfoldable pub headerRead : List ℕ → HeaderRead
-headerRead bytes = firstRule Refused (bytesRules bytes) (Accepted (headerIn bytes))
+headerRead bytes = firstCase Refused (bytesCases bytes) (Accepted (headerIn bytes))
 
--- A header in numbers: L, S, A, the start's code, N and the entry, in the order of the table of fields.
+-- Rule 12.9: a header in numbers.
 abbrev pub headerNumbers : Header → List ℕ
 headerNumbers header =
     header .geometry .line
@@ -95,12 +100,13 @@ headerNumbers header =
     ∷ header .entry
     ∷ []
 
--- An answer in this paper's numbers: number and place, both 0 for no refusal, then the header's; none after a refusal.
+-- An answer in numbers: number and place, both 0 for no refusal, then the header's; none after a refusal.
 pub record HeaderSaid : Type 0 where
   pub number : ℕ
   pub place : ℕ
   pub header : List ℕ
 
+-- Rule 12.8, of the header alone.
 abbrev pub headerSays : HeaderRead → HeaderSaid
 headerSays (Accepted header) = record { number = 0; place = 0; header = headerNumbers header }
 headerSays (Refused refusal) = record { number = numberOf refusal; place = placeOf refusal; header = [] }

@@ -1,5 +1,5 @@
--- What inner functions promise among themselves: blocks gathered in an array, and what a reader that accepts has found. Nothing here is
--- document 01's.
+-- What inner functions promise among themselves: blocks gathered in an array, and what a reader that accepts has found.
+-- Nothing here is a rule of the tool: contracts of inner functions speak of it.
 use Prim.Native.Nat.{ℕ}
 use mathlib.Core.Bool.{cond, false}
 use mathlib.Core.List.{List}
@@ -22,7 +22,7 @@ pub record Gathers (fieldsAt : ℕ → RecordFields) (geometry : Geometry) (node
   pub laid : ltb (firstOverfull fieldsAt geometry nodes) nodes ≡ false → array ≡ padded mostBlocks (gathered (blocksAt geometry fieldsAt) nodes)
 
 -- The bytes are an accepted chart's, and a header, a count of blocks and an array of them are that chart's.
-pub record Found (bytes : List ℕ) (header : Header) (count : ℕ) (array : List ℕ) : Type 0 where
+pub record AcceptedAs (bytes : List ℕ) (header : Header) (count : ℕ) (array : List ℕ) : Type 0 where
   pub read : readChart bytes ≡ accepted (chartIn bytes)
   pub header-is : header ≡ chartIn bytes .header
   pub count-is : count ≡ blockCount (chartIn bytes)

@@ -1,4 +1,5 @@
--- What the reader answers for any bytes. Document 01, "When the tool says no" (rows 1 to 10) and "Pinning it down".
+-- What the reader answers for any bytes, and the same in numbers. Rules 12.1 and 12.8.
+-- A choice: number and place are 0 where nothing is refused, and the answer in numbers leaves the blocks themselves out.
 use mathlib.Core.List.{List, []}
 use Prim.Native.Nat.{ℕ}
 use lib.ListN.{length, replicate}
@@ -11,7 +12,7 @@ use Rattle.refusals.specs.Refusals.{numberOf, placeOf}
 use Rattle.chart.specs.Header.{headerNumbers}
 use Rattle.chart.specs.Chart.{Read, accepted, refused, readChart}
 
--- The header, the number of blocks and the blocks, zeros after them; after a refusal zeros only.
+-- Rule 12.1: what is answered with a chart, and what with a refusal.
 unfoldable pub readingOf : Read → Reading
 readingOf (accepted chart) =
     record {
@@ -27,13 +28,14 @@ pub record ReadSaid : Type 0 where
   pub blocks : ℕ
   pub header : List ℕ
 
--- "Every refusal returns its number and place, with .. block count .. 0".
+-- Rule 12.8: a refusal says its number and place, B is 0, and there is no header.
 abbrev pub verdictSays : Verdict → ReadSaid
 verdictSays (Accepted header blocks) =
     record { number = 0; place = 0; blocks = blocks; header = headerNumbers header }
 verdictSays (Refused refusal) =
     record { number = numberOf refusal; place = placeOf refusal; blocks = 0; header = [] }
 
+-- Rule 12.1: what the reader answers.
 abbrev pub reading : List ℕ → Reading
 reading bytes = readingOf (readChart bytes)
 

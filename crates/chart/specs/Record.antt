@@ -1,5 +1,6 @@
--- A node's record: its fields, its rules, what it touches and where its arrows lead.
--- Document 01, "What a chart carries", from "Then come N records of 64 bits" on.
+-- A node's record: its fields, what is allowed in them, what it touches and where its arrows lead. Rules 2.1 to 2.8 and 3.3.
+-- Choices: one test for all that a record has to keep, of any fields, whether or not a word can hold them; touches are a list, of none or one.
+-- A record that is refused reads as something too: a kind above 2 as a read, more than two arrows as two.
 use Prim.Native.Nat.{ℕ, _^_, _<_}
 use mathlib.Core.Bool.{Bool, not, cond, _&&_, _||_}
 use mathlib.Core.List.{List, [], _∷_, map}
@@ -13,7 +14,7 @@ use Rattle.chart.specs.declared.records.Node.{Node}
 use Rattle.chart.specs.Layout.{field, recordWidths}
 use Rattle.chart.specs.Geometry.{blockOf}
 
--- The fields of a record's word, in the paper's order.
+-- Rule 2.1: the fields of a record's word, in order.
 abbrev pub recordFields : ℕ → RecordFields
 recordFields word =
     record {
@@ -25,12 +26,12 @@ recordFields word =
       spare = field recordWidths 5 word;
     }
 
--- "an arrow not used is 0; a used one is below N"
+-- Rule 2.4, of one arrow. Each is judged by itself, so that both may lead to one node (rule 2.5).
 abbrev pub arrowKeeps : ℕ → Bool → ℕ → Bool
 arrowKeeps nodes used target = cond used (ltb target nodes) (eqb target 0)
 
--- The rules of a record in a chart of so many nodes, of any fields, whether or not a word can hold them: kind 0, 1 or 2; an address of
--- 32 bits, as every address in a word is; "a bare step has address 0"; 0, 1 or 2 arrows; each arrow's rule; the spare bits zero.
+-- Rules 2.1 to 2.6, in a chart of so many nodes: the kind (rules 2.1 and 2.2), an address of 32 bits, as every one in a word is, a bare step's
+-- (rule 2.3), the number of arrows (rule 2.1), both arrows (rules 2.4 and 2.5), the spare bits (rule 2.6).
 unfoldable pub recordKeeps : ℕ → RecordFields → Bool
 recordKeeps nodes fields =
     leb (fields .kind) 2
@@ -41,38 +42,41 @@ recordKeeps nodes fields =
     && (arrowKeeps nodes (ltb 1 (fields .outs)) (fields .second)
     && eqb (fields .spare) 0)))))
 
--- "A record reads as either a reference or a bare step": kind 0 is a bare step, 1 a read, 2 a write.
+-- Rule 2.2: what a record is by its kind.
 unfoldable pub recordOf : RecordFields → Record
 recordOf fields =
     cond (eqb (fields .kind) 0) Step (Reference (record { write = eqb (fields .kind) 2; address = fields .address }))
 
+-- Rule 2.1: how many arrows lead out, and the two fields for targets.
 abbrev pub targetsOf : RecordFields → Targets
 targetsOf fields = record { outs = fields .outs; first = fields .first; second = fields .second }
 
+-- Rules 2.1 and 2.2: what a node does and where it leads.
 abbrev pub nodeOf : RecordFields → Node
 nodeOf fields = record { what = recordOf fields; targets = targetsOf fields }
 
--- The nodes that a node's arrows lead to, the first first.
+-- Rule 2.4: the targets of the arrows that are used, the first first.
 unfoldable pub arrowsOf : Targets → List ℕ
 arrowsOf targets =
     cond (eqb (targets .outs) 0) [] (cond (eqb (targets .outs) 1) (targets .first ∷ []) (targets .first ∷ targets .second ∷ []))
 
--- The arrows that are used lead to nodes.
+-- Rule 2.4: the arrows that are used lead to nodes.
 pub record Leads (nodes : ℕ) (targets : Targets) : Type 0 where
   pub first-in : 0 < targets .outs → targets .first < nodes
   pub second-in : 1 < targets .outs → targets .second < nodes
 
--- One touch of the cache: of which block, and whether by a write.
+-- Rule 3.3: one touch of the cache, of which block; and whether by a write.
 pub record Touch : Type 0 where
   pub block : ℕ
   pub write : Bool
 
--- What a record touches, in turn: nothing for a bare step, for a reference the block that holds its address, and whether it writes.
+-- Rule 3.3: what a record touches. A bare step has no touch, so nothing is done for it (rule 2.7); a write has a read's (rule 2.8), and the
+-- flag only says that it is one.
 unfoldable pub touchesOf : Geometry → Record → List Touch
 touchesOf geometry Step = []
 touchesOf geometry (Reference reference) =
     record { block = blockOf geometry (reference .address); write = reference .write } ∷ []
 
--- The blocks of touches, in turn.
+-- Rule 3.3: the blocks of touches, in turn.
 abbrev pub blocksOf : List Touch → List ℕ
 blocksOf touches = map (λ (touch : Touch). touch .block) touches

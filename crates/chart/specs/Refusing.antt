@@ -1,6 +1,7 @@
--- When each of refusals 1 to 10 applies, as statements about the bytes: document 01, "When the tool says no", row by row. The tests of
--- `Header.antt`, `Record.antt` and `Chart.antt` run; these are read. Demand 1 promises that the two agree. The limits of N, S, A and the
--- blocks are the geometry's on both sides: their numbers are sounded.
+-- When each of refusals 1 to 10 applies, as statements about the bytes. Rules 11.1 to 11.10 a second time, with rules 1.2, 1.3, 2.1 to 2.6, 3.1 and 3.3:
+-- the tests of `Header.antt`, `Record.antt` and `Chart.antt` run; these are read. Demand 1 promises that the two agree. The limits of N, S, A
+-- and the blocks are the geometry's on both sides: their numbers are sounded.
+-- Choices: a byte past the end counts as 0; any kind but 0 touches; that the two agree is said of bytes (`AreBytes`).
 use Prim.Native.Nat.{ℕ, suc, _+_, _*_, _/_, _^_, _≤_, _<_}
 use mathlib.Core.Bool.{cond}
 use mathlib.Core.List.{List, [], _∷_}
@@ -11,41 +12,47 @@ use Rattle.blocks.specs.Blocks.{gathered}
 use Rattle.chart.specs.declared.headers.HeaderFields.{HeaderFields}
 use Rattle.chart.specs.declared.records.RecordFields.{RecordFields}
 use Rattle.refusals.specs.declared.Refusal.{Refusal}
-use Rattle.refusals.specs.declared.Refusal.the-variants.{TooShort, Edition, Shape, StartCode, NodeCount, EntryNode, SpareBits, Length, BrokenRecord, TooManyBlocks, ShortBuffer, Unsettled, NotPassing, BoundsLength, Costs, FloorAboveCeiling, FloorAtUnmarked}
+use Rattle.refusals.specs.declared.Refusal.the-variants.{TooShort, Edition, CacheShape, StartCode, NodeCount, EntryNode, SpareBits, Length, BrokenRecord, TooManyBlocks, ShortBuffer, Unsettled, NotPassing, BoundsLength, MissBelowHit, FloorAboveCeiling, FloorAtUnmarked}
 use Rattle.chart.specs.Geometry.{mostNodes, mostBlocks, mostSetBits, mostWays}
 use Rattle.chart.specs.Bytes.{headerBytes, recordBytes}
 
--- L from 2 to 8, S from 0 to 8, A from 1 to 8.
-pub record ShapeKept (fields : HeaderFields) : Type 0 where
+-- Rules 1.2 and 11.3: L, S and A are allowed.
+pub record ShapeKeeps (fields : HeaderFields) : Type 0 where
   pub line-from : 2 ≤ fields .line
   pub line-to : fields .line ≤ 8
   pub sets-to : fields .sets ≤ mostSetBits
   pub ways-from : 1 ≤ fields .ways
   pub ways-to : fields .ways ≤ mostWays
 
--- The rules of a record in a chart of so many nodes. (An address of bytes has 32 bits in any case.)
-pub record RecordKept (nodes : ℕ) (fields : RecordFields) : Type 0 where
+-- Rules 2.1 to 2.6: what a record in a chart of so many nodes has to keep.
+pub record RecordKeeps (nodes : ℕ) (fields : RecordFields) : Type 0 where
+  -- rules 2.1 and 2.2
   pub kinds : fields .kind ≤ 2
+  -- rule 2.1: an address of bytes is so in any case
   pub addresses : fields .address < 2 ^ 32
+  -- rule 2.3
   pub steps : fields .kind ≡ 0 → fields .address ≡ 0
+  -- rule 2.1
   pub arrows : fields .outs ≤ 2
+  -- rule 2.4, and rule 2.5, since neither arrow's target is held to the other's
   pub first-used : 1 ≤ fields .outs → fields .first < nodes
   pub first-unused : fields .outs ≡ 0 → fields .first ≡ 0
   pub second-used : 2 ≤ fields .outs → fields .second < nodes
   pub second-unused : fields .outs ≤ 1 → fields .second ≡ 0
+  -- rule 2.6
   pub spares : fields .spare ≡ 0
 
 -- N, as the bytes say it.
 abbrev pub nodesSaid : List ℕ → ℕ
 nodesSaid bytes = headerBytes bytes .nodes
 
--- "first such node": its record breaks a rule, and none before it does.
+-- Rule 11.9: a node's record breaks a rule, and none before it does.
 pub record FirstBroken (bytes : List ℕ) (n : ℕ) : Type 0 where
   pub inside : n < nodesSaid bytes
-  pub breaks : RecordKept (nodesSaid bytes) (recordBytes bytes n) → ⊥
-  pub earlier : (i : ℕ) → i < n → RecordKept (nodesSaid bytes) (recordBytes bytes i)
+  pub breaks : RecordKeeps (nodesSaid bytes) (recordBytes bytes n) → ⊥
+  pub earlier : (i : ℕ) → i < n → RecordKeeps (nodesSaid bytes) (recordBytes bytes i)
 
--- The blocks that node n touches, as the bytes say it: none if it is a bare step, else address / 2^L, rounded down.
+-- Rules 3.1 and 3.3: the blocks that node n touches, as the bytes say it. None if it is a bare step, else the one that the address lies in.
 abbrev pub blocksSaid : List ℕ → ℕ → List ℕ
 blocksSaid bytes n =
     cond (eqb (recordBytes bytes n .kind) 0) [] ((recordBytes bytes n .address / 2 ^ headerBytes bytes .line) ∷ [])
@@ -54,17 +61,18 @@ blocksSaid bytes n =
 abbrev pub blocksBefore : List ℕ → ℕ → List ℕ
 blocksBefore bytes n = gathered (blocksSaid bytes) n
 
--- "node bringing the 65th, in node order"
+-- Rule 11.10: with node n there is a block too many, and before it there was none too many.
 pub record FirstOver (bytes : List ℕ) (n : ℕ) : Type 0 where
   pub inside : n < nodesSaid bytes
   pub over : mostBlocks < length (blocksBefore bytes (suc n))
   pub earlier : length (blocksBefore bytes n) ≤ mostBlocks
 
--- When each applies, whether or not another does too.
+-- Rules 11.1 to 11.10, with the length of rule 1.3: when each applies, whether or not another does too. The later ones are never of the bytes
+-- alone.
 abbrev pub Applies : List ℕ → Refusal → Type 0
 Applies bytes TooShort = length bytes < 8
 Applies bytes Edition = headerBytes bytes .edition ≡ 1 → ⊥
-Applies bytes Shape = ShapeKept (headerBytes bytes) → ⊥
+Applies bytes CacheShape = ShapeKeeps (headerBytes bytes) → ⊥
 Applies bytes StartCode = 1 < headerBytes bytes .start
 Applies bytes NodeCount = (1 ≤ nodesSaid bytes) × (nodesSaid bytes ≤ mostNodes) → ⊥
 Applies bytes EntryNode = nodesSaid bytes ≤ headerBytes bytes .entry
@@ -76,6 +84,6 @@ Applies bytes ShortBuffer = ⊥
 Applies bytes Unsettled = ⊥
 Applies bytes NotPassing = ⊥
 Applies bytes BoundsLength = ⊥
-Applies bytes Costs = ⊥
+Applies bytes MissBelowHit = ⊥
 Applies bytes (FloorAboveCeiling n) = ⊥
 Applies bytes (FloorAtUnmarked n) = ⊥

@@ -1,6 +1,6 @@
 -- What accepted bytes say, as statements: the header, what each node touches and where its arrows lead, byte by byte, and which blocks the
--- chart has, and their sets. Document 01, "What a chart carries". Analysis and plain machine both go by a chart's touches, blocks and sets, so
--- neither would notice a wrong one; this would.
+-- chart has, and their sets. Rules 1.2, 2.2, 2.4, 2.7, 2.8 and 3.1 to 3.4 a second time: analysis and plain machine both go by a chart's
+-- touches, blocks and sets, so neither would notice a wrong one; this would.
 use Prim.Native.Nat.{ℕ, _/_, _%_, _^_, _<_}
 use mathlib.Core.Bool.{true, false}
 use mathlib.Core.List.{List, [], _∷_}
@@ -15,6 +15,7 @@ use Rattle.chart.specs.Record.{Touch, blocksOf}
 use Rattle.chart.specs.Chart.{Chart, touches, arrows}
 use Rattle.chart.specs.Bytes.{headerBytes, recordBytes}
 
+-- Rule 1.2: a header says what its fields say.
 pub record HeaderSays (fields : HeaderFields) (header : Header) : Type 0 where
   pub line : header .geometry .line ≡ fields .line
   pub sets : header .geometry .sets ≡ fields .sets
@@ -24,18 +25,22 @@ pub record HeaderSays (fields : HeaderFields) (header : Header) : Type 0 where
   pub nodes : header .nodes ≡ fields .nodes
   pub entry : header .entry ≡ fields .entry
 
--- Kind 0 is a bare step, 1 a read, 2 a write; "block = address / 2^L, rounded down"; the arrows out, the first first.
-pub record NodeSays (fields : RecordFields) (line : ℕ) (touched : List Touch) (leads : List ℕ) : Type 0 where
-  pub step : fields .kind ≡ 0 → touched ≡ []
-  pub read : fields .kind ≡ 1 → touched ≡ record { block = fields .address / 2 ^ line; write = false } ∷ []
-  pub write : fields .kind ≡ 2 → touched ≡ record { block = fields .address / 2 ^ line; write = true } ∷ []
+-- Rules 2.2, 3.1 and 3.3: which block each kind touches. Rule 2.4: where the arrows that are used lead, the first first.
+pub record NodeSays (fields : RecordFields) (line : ℕ) (touches : List Touch) (leads : List ℕ) : Type 0 where
+  -- rules 2.2 and 2.7
+  pub step : fields .kind ≡ 0 → touches ≡ []
+  pub read : fields .kind ≡ 1 → touches ≡ record { block = fields .address / 2 ^ line; write = false } ∷ []
+  -- rules 2.2 and 2.8: the block that a read would touch
+  pub write : fields .kind ≡ 2 → touches ≡ record { block = fields .address / 2 ^ line; write = true } ∷ []
   pub no-arrow : fields .outs ≡ 0 → leads ≡ []
   pub one-arrow : fields .outs ≡ 1 → leads ≡ fields .first ∷ []
   pub two-arrows : fields .outs ≡ 2 → leads ≡ fields .first ∷ fields .second ∷ []
 
+-- What the bytes of a chart say.
 pub record Says (bytes : List ℕ) (chart : Chart) : Type 0 where
   pub header : HeaderSays (headerBytes bytes) (chart .header)
   pub nodes : (n : ℕ) → n < chart .header .nodes → NodeSays (recordBytes bytes n) (chart .header .geometry .line) (touches chart n) (arrows chart n)
+  -- rule 3.4
   pub blocks : Exactly (λ n. blocksOf (touches chart n)) (chart .header .nodes) (chart .blocks)
-  -- "set = block mod 2^S"
+  -- rule 3.2, with the S of the bytes
   pub sets : (block : ℕ) → setOf (chart .header .geometry) block ≡ block % 2 ^ headerBytes bytes .sets

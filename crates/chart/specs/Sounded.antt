@@ -1,5 +1,6 @@
 -- Soundings of the reader and of what it reads by: a header and a record in which no two fields can change places unseen (they are no chart's:
--- entry and arrows are not below N), a bare step, a read and a write, and the limits of N and of the blocks from both sides. `sounded` in proofs/Sounded.antt.
+-- entry and arrows are not below N), a bare step, a read and a write, and the limits of N and of the blocks from both sides (rules 1.2 and 3.4).
+-- Nothing here is a rule of the tool: these are examples, and `sounded` in proofs/Sounded.antt holds the definitions to them.
 use Prim.Native.Nat.{ℕ, _*_, _-_, _/_, _%_}
 use mathlib.Core.Bool.{cond}
 use mathlib.Core.List.{List, [], _∷_, _++_, map}

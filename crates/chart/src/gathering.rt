@@ -1,4 +1,5 @@
-// The blocks of a chart, in ascending order.
+// The blocks of a chart (rule 3.4): how many there are, and they themselves in an array, or the first node that brings one too many. Callers keep
+// bytes that hold every record, and an array of zeros. Nothing is refused here.
 ghost use mathlib.Core.Path.{_≡_};
 ghost use mathlib.Core.List.{[]};
 ghost use Prim.Native.Nat.{_≤_};
@@ -16,7 +17,7 @@ use crate::records::node_at;
 use crate::shape::Geometry;
 use blocks::put_block;
 
-// How many blocks there are, or the first node that brings one too many.
+// How many blocks there are, or the first node that brings one too many (rule 11.10).
 pub enum Gathered {
     Blocks(usize),
     TooMany(usize),

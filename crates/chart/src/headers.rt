@@ -1,9 +1,10 @@
-// The header: the cache's shape, the start, the number of nodes and the entry.
+// The header of any bytes: the cache's shape, the start, the number of nodes and the entry, or the first of refusals 1 to 8 that applies.
+// Inner functions take any fields, and ask in the order of rule 11.0.
 ghost use mathlib.Core.Path.{_≡_};
 ghost use mathlib.Core.Bool.{true};
-ghost use Rattle.lists.specs.Choice.{firstRule};
+ghost use Rattle.lists.specs.Choice.{firstCase};
 ghost use Rattle.chart.specs.Geometry.{shapeAllowed};
-ghost use Rattle.chart.specs.Header.{headerFields, geometryOf, startOf, startCode, headerOf, headerRules, headerRead, headerSays, readHeaderSays};
+ghost use Rattle.chart.specs.Header.{headerFields, geometryOf, startOf, startCode, headerOf, headerCases, headerRead, headerSays, readHeaderSays};
 use crate::shape::Geometry;
 use crate::words::bits;
 use crate::words::word_at;
@@ -29,7 +30,7 @@ pub enum Start {
 }
 
 impl Start {
-    // Its code in the header.
+    // Its code in the header (rule 1.2): 0 or 1.
     pub fn code(self) -> u16
         ensures { λ r. ⌜ r ≡ startCode self ⌝ }
     {
@@ -40,6 +41,7 @@ impl Start {
     }
 }
 
+// What a header says that is accepted.
 pub struct Header {
     pub geometry: Geometry,
     pub start: Start,
@@ -69,6 +71,7 @@ fn header_fields(word: u64) -> HeaderFields
     }
 }
 
+// Whether L, S and A are what rule 1.2 allows.
 fn shape_allowed(fields: HeaderFields) -> bool
     ensures { λ r. ⌜ r ≡ shapeAllowed (geometryOf fields) ⌝ }
 {
@@ -102,7 +105,7 @@ fn start_of(code: u64) -> Start
 
 // The header of these fields, or the first of refusals 2 to 8 that applies; `long` says whether the length is the one for them.
 fn header_of(fields: HeaderFields, long: bool) -> HeaderRead
-    ensures { λ r. ⌜ r ≡ firstRule HeaderRead.Refused (headerRules fields long) (HeaderRead.Accepted (headerOf fields)) ⌝ }
+    ensures { λ r. ⌜ r ≡ firstCase HeaderRead.Refused (headerCases fields long) (HeaderRead.Accepted (headerOf fields)) ⌝ }
 {
     let edition = fields.edition;
     if edition != 1 {
@@ -110,7 +113,7 @@ fn header_of(fields: HeaderFields, long: bool) -> HeaderRead
     }
     let allowed = shape_allowed(fields);
     if !allowed {
-        return HeaderRead::Refused(Refusal::Shape);
+        return HeaderRead::Refused(Refusal::CacheShape);
     }
     let code = fields.start;
     if 1 < code {
@@ -142,7 +145,7 @@ fn header_of(fields: HeaderFields, long: bool) -> HeaderRead
     })
 }
 
-// The header of any bytes, or the first of refusals 1 to 8 that applies.
+// The header of any bytes, or the first of refusals 1 to 8 that applies (rule 12.1). Records are not looked at.
 pub fn read_header(chart: &[u8]) -> HeaderRead
     ensures { λ r. ⌜ r ≡ headerRead (now (chart .entry)) ⌝ }
     ensures { λ r. ⌜ headerSays r ≡ readHeaderSays (now (chart .entry)) ⌝ }

@@ -1,4 +1,6 @@
-// From any bytes to a chart: its header, its records and its blocks, or one of the refusals 1 to 10.
+// From any bytes to a chart: `read` answers its header and its blocks, or the first of refusals 1 to 10 that applies, and `read_header` the
+// header alone, or the first of refusals 1 to 8. `node_at` answers what a node does, of bytes that hold its record. `Geometry` answers, for
+// any shape, which block an address lies in and which set a block belongs to.
 mod gathering;
 mod headers;
 mod readings;

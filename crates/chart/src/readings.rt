@@ -1,4 +1,4 @@
-// The reader as a whole.
+// The reader as a whole: for any bytes the header, the number of blocks and the blocks, or the first of refusals 1 to 10 that applies.
 ghost use mathlib.Core.Path.{_≡_};
 ghost use lib.ListN.{length};
 ghost use Rattle.chart.specs.Layout.{chartLength};
@@ -19,7 +19,7 @@ pub enum Verdict {
     Refused(Refusal),
 }
 
-// The blocks stand at the start of the array, zeros after them; after a refusal there are zeros only.
+// The blocks stand at the start of the array, zeros after them; after a refusal there are zeros only (rule 12.1).
 pub struct Reading {
     pub verdict: Verdict,
     pub blocks: [u32; Geometry::BLOCKS],
@@ -56,7 +56,7 @@ fn read_records(chart: &[u8], header: Header) -> Reading
     }
 }
 
-// What any bytes read as: a chart, or the first of refusals 1 to 10 that applies.
+// What any bytes read as: a chart's header and blocks, or the first of refusals 1 to 10 that applies and no block (rule 12.1).
 pub fn read(chart: &[u8]) -> Reading
     ensures { λ r. ⌜ r ≡ reading (now (chart .entry)) ⌝ }
     ensures { λ r. ⌜ verdictSays (r .verdict) ≡ readSays (now (chart .entry)) ⌝ }

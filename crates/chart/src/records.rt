@@ -1,4 +1,5 @@
-// A node's record: what it does, where its arrows lead, and whether it keeps its rules.
+// A node's record: what it does, where its arrows lead, and whether it keeps rules 2.1 to 2.6. `first_broken` answers the first node whose
+// record does not; nothing else here refuses, and a record that breaks a rule reads as something too. Callers keep bytes that hold the record.
 ghost use mathlib.Core.Path.{_≡_};
 ghost use Prim.Native.Nat.{_+_, _^_, _≤_, _<_};
 ghost use lib.ListN.{length};
@@ -18,6 +19,7 @@ pub struct RecordFields {
     pub spare: u64,
 }
 
+// A read or a write (rule 2.2).
 pub struct Reference {
     pub write: bool,
     pub address: u32,
@@ -93,7 +95,7 @@ fn node_of(fields: RecordFields) -> Node
     }
 }
 
-// The node whose record is number n of any bytes that hold it, whether or not it keeps its rules.
+// The node whose record is number n of any bytes that hold it, whether or not it keeps its rules: that is `read`'s to judge.
 pub fn node_at(chart: &[u8], n: usize) -> Node
     requires { ⌜ chartLength (n + 1) ≤ length (now chart) ⌝ }
     ensures { λ r. ⌜ r ≡ nodeAt (now (chart .entry)) n ⌝ }
@@ -101,7 +103,7 @@ pub fn node_at(chart: &[u8], n: usize) -> Node
     node_of(fields_at(chart, n))
 }
 
-// Whether an arrow that is used leads below `nodes`, and one that is not is 0.
+// Whether an arrow that is used leads below `nodes`, and one that is not is 0 (rule 2.4).
 fn arrow_keeps(nodes: usize, used: bool, target: u64) -> bool
     ensures { λ r. ⌜ r ≡ arrowKeeps nodes used target ⌝ }
 {
@@ -112,7 +114,7 @@ fn arrow_keeps(nodes: usize, used: bool, target: u64) -> bool
     }
 }
 
-// Whether a record of these fields keeps the rules of a chart of so many nodes.
+// Whether a record of these fields keeps rules 2.1 to 2.6 in a chart of so many nodes.
 fn record_keeps(nodes: usize, fields: RecordFields) -> bool
     ensures { λ r. ⌜ r ≡ recordKeeps nodes fields ⌝ }
 {
@@ -127,7 +129,7 @@ fn record_keeps(nodes: usize, fields: RecordFields) -> bool
     (kind <= 2) & (fits & (addressed & ((outs <= 2) & (first & (second & clear)))))
 }
 
-// The first node whose record breaks its rules, or `nodes`.
+// The first node whose record breaks its rules, or `nodes` (rule 11.9).
 pub(crate) fn first_broken(chart: &[u8], nodes: usize) -> usize
     requires { ⌜ chartLength nodes ≤ length (now chart) ⌝ }
     ensures { λ r. ⌜ r ≡ firstBroken (recordsIn (now (chart .entry))) nodes ⌝ }

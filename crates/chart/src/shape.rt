@@ -1,4 +1,5 @@
-// The cache's shape, the limits that go with it, and which block and which set an address falls into.
+// The cache's shape, the limits that go with it (rule 1.4), and which block an address lies in and which set a block belongs to. Both answer
+// for any shape that the type can hold, allowed or not.
 ghost use mathlib.Core.Path.{_≡_};
 ghost use Rattle.chart.specs.Geometry.{blockOf, setOf};
 
@@ -32,7 +33,7 @@ impl Geometry {
 
     pub const SETS_TO: u8 = 8;
 
-    // The block that holds an address.
+    // The block that holds an address (rule 3.1).
     pub fn block_of(self, address: u32) -> u32
         ensures { λ r. ⌜ r ≡ blockOf self address ⌝ }
     {
@@ -40,7 +41,7 @@ impl Geometry {
         if line < 32 { address >> line } else { 0 }
     }
 
-    // The set that a block belongs to.
+    // The set that a block belongs to (rule 3.2).
     pub fn set_of(self, block: u32) -> u32
         ensures { λ r. ⌜ r ≡ setOf self block ⌝ }
     {

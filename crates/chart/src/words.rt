@@ -1,4 +1,5 @@
-// A chart as words of 64 bits, and the fields of a word.
+// A chart as words of 64 bits, and the fields of a word (rule 1.1). Callers keep bytes that hold the word, and fields that lie in it. Nothing is
+// refused here.
 ghost use mathlib.Core.Path.{_≡_};
 ghost use Prim.Native.Nat.{_+_, _*_, _/_, _%_, _^_, _≤_, _<_};
 ghost use lib.ListN.{length};

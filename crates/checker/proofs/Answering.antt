@@ -13,12 +13,12 @@ use Rattle.chart.specs.Geometry.{mostNodes, mostBlocks}
 use Rattle.ages.specs.Plan.{Plan}
 use Rattle.plan.specs.Listed.{nodesIn, blocksIn, planIn, Drawn}
 use Rattle.tables.specs.Lent.{Lent, tableShort}
-use Rattle.tables.specs.Inner.{Roomy}
+use Rattle.tables.specs.Inner.{Roomy, usedPart}
 use Rattle.tables.proofs.Laid.{long-enough}
-use Rattle.tables.proofs.Used.{usedPart, part-same}
-use Rattle.checker.specs.declared.Checked.the-variants.{Passes, Fails, Refused}
-use Rattle.checker.specs.Checker.{passes, checkedBy}
-use Rattle.checker.proofs.Used.{passes-used}
+use Rattle.tables.proofs.Used.{part-same}
+use Rattle.checker.specs.declared.Checked.the-variants.{Yes, No, Refused}
+use Rattle.checker.specs.Checker.{passing, checkedBy}
+use Rattle.checker.proofs.Used.{passing-used}
 
 module _ {columns plan : List ℕ} (drawn : Drawn columns plan) (lent : Lent) {nodes blocks : ℕ} (nodes-are : nodes ≡ nodesIn plan) (blocks-are : blocks ≡ blocksIn plan) where
   abbrev held : Plan
@@ -44,8 +44,8 @@ module _ {columns plan : List ℕ} (drawn : Drawn columns plan) (lent : Lent) {n
 
   module _ (e : short ≡ false) where
     -- The used parts are there.
-    pub long : (nodes * blocks ≤ length (lent .must)) × ((nodes * blocks ≤ length (lent .may)) × (nodes ≤ length (lent .marks)))
-    long = rw (nodes-are, blocks-are) (long-enough held lent (sym short-is ∙ e))
+    pub buffers-long : (nodes * blocks ≤ length (lent .must)) × ((nodes * blocks ≤ length (lent .may)) × (nodes ≤ length (lent .marks)))
+    buffers-long = rw (nodes-are, blocks-are) (long-enough held lent (sym short-is ∙ e))
 
     abbrev part : Lent
     part =
@@ -59,21 +59,21 @@ module _ {columns plan : List ℕ} (drawn : Drawn columns plan) (lent : Lent) {n
     part-roomy =
         rw (← nodes-are, ← blocks-are)
         (record {
-          must-room = omega (arith, length-take-le (nodes * blocks) (lent .must) (long .0));
-          may-room = omega (arith, length-take-le (nodes * blocks) (lent .may) (long .1 .0));
-          marks-room = omega (arith, length-take-le nodes (lent .marks) (long .1 .1));
+          must-room = omega (arith, length-take-le (nodes * blocks) (lent .must) (buffers-long .0));
+          may-room = omega (arith, length-take-le (nodes * blocks) (lent .may) (buffers-long .1 .0));
+          marks-room = omega (arith, length-take-le nodes (lent .marks) (buffers-long .1 .1));
         })
 
     -- They pass or fail as the whole.
-    part-passes : passes held part ≡ passes held lent
-    part-passes =
-        (λ i. passes held (record {
+    part-passing : passing held part ≡ passing held lent
+    part-passing =
+        (λ i. passing held (record {
           must = take (nodes-are i * blocks-are i) (lent .must);
           may = take (nodes-are i * blocks-are i) (lent .may);
           marks = take (nodes-are i) (lent .marks);
         }))
-        ∙ passes-used held (drawn .sound) (usedPart held lent) lent (part-same held lent (sym short-is ∙ e))
+        ∙ passing-used held (drawn .sound) (usedPart held lent) lent (part-same held lent (sym short-is ∙ e))
 
-    pub long-answer : {passing : Bool} → passing ≡ passes held part → cond passing Passes Fails ≡ checkedBy held lent
+    pub long-answer : {pass : Bool} → pass ≡ passing held part → cond pass Yes No ≡ checkedBy held lent
     unfolding checkedBy
-    long-answer {passing} p = let passed : passing ≡ passes held lent = p ∙ part-passes in rw (← short-is, e, passed)
+    long-answer {pass} p = let passed : pass ≡ passing held lent = p ∙ part-passing in rw (← short-is, e, passed)

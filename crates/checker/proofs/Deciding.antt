@@ -19,8 +19,8 @@ use Rattle.flow.specs.Flow.{Cell, blank, holds, cellAt}
 use Rattle.flow.specs.Passing.{CellBelow, CellOk, leaving, Passing}
 use Rattle.ages.specs.Plan.{Plan, columnsOf, arrowsIn, planFlow, Sound}
 use Rattle.tables.specs.Lent.{Lent, agesAt, tableOf, tableShort, TablePasses}
-use Rattle.tables.proofs.Laid.{shaped-tableOf, tableOf-at, tableOf-past, long-enough, not-short}
-use Rattle.checker.specs.Checker.{fits, zeroed, covers, marked, everyOf, allows, markPlain, agesFit, unmarkedZero, entryAllows, arrowsAllow, nodePasses, passes}
+use Rattle.tables.proofs.Laid.{tableOf-fits, tableOf-at, tableOf-past, long-enough, not-short}
+use Rattle.checker.specs.Checker.{fits, zeroed, covers, marked, everyOf, allows, markPlain, agesFit, unmarkedZero, entryAllows, arrowsAllow, nodePassing, passing}
 
 -- ---- tests
 
@@ -150,9 +150,9 @@ module _ (plan : Plan) (lent : Lent) (sound : Sound plan) where
   abbrev stepped : ℕ → Ages
   stepped n = planFlow plan .step n (agesAt plan lent n)
 
-  node-tests : every (plan .nodes) (nodePasses plan lent) ≡ true → (n : ℕ) → n < plan .nodes → NodeTests plan lent n
+  node-tests : every (plan .nodes) (nodePassing plan lent) ≡ true → (n : ℕ) → n < plan .nodes → NodeTests plan lent n
   node-tests e n h =
-      let one = and-true (markPlain plan lent n) _ (every-all (plan .nodes) (nodePasses plan lent) e n h) in
+      let one = and-true (markPlain plan lent n) _ (every-all (plan .nodes) (nodePassing plan lent) e n h) in
       let two = and-true (agesFit plan lent n) _ (one .1) in
       let three = and-true (unmarkedZero plan lent n) _ (two .1) in
       record { plain = one .0; fit = two .0; zero = three .0; out = three .1 }
@@ -166,7 +166,7 @@ module _ (plan : Plan) (lent : Lent) (sound : Sound plan) where
     tests-equations : Passing (planFlow plan) (tableOf plan lent)
     tests-equations =
         record {
-          long = shaped-tableOf plan lent .long;
+          long = tableOf-fits plan lent .long;
           fine = cells plan lent (λ n c. CellOk (planFlow plan) c) (λ n. tt) (λ n h e. fits-within (columnsOf plan) (agesAt plan lent n) (length-listOf (plan .blocks) _) (length-listOf (plan .blocks) _) (tests n h .fit));
           begun = allows-below plan lent (planFlow plan .start) (plan .entry) (sound .entry-in) begins;
           closed = λ n t i.
@@ -182,9 +182,9 @@ module _ (plan : Plan) (lent : Lent) (sound : Sound plan) where
         (or-true (marked lent n) _ (tests n h .zero) (ap not (eq-eqb (getD (lent .marks) n 0) 0 z)))
 
   -- A table that is long enough and passes the tests passes.
-  pub passes-yes : tableShort plan lent ≡ false → passes plan lent ≡ true → TablePasses plan lent
-  unfolding passes
-  passes-yes short e =
+  pub passing-yes : tableShort plan lent ≡ false → passing plan lent ≡ true → TablePasses plan lent
+  unfolding passing
+  passing-yes short e =
       let long = long-enough plan lent short in
       let both = and-true (entryAllows plan lent) _ e in
       let tests = node-tests (both .1) in
@@ -216,8 +216,8 @@ module _ (plan : Plan) (lent : Lent) (p : TablePasses plan lent) where
       below-allows plan lent (planFlow plan .step n (agesAt plan lent n)) t
       (subst (λ (c : Cell Ages). CellBelow (planFlow plan) (leaving (planFlow plan) n c) (cellAt (tableOf plan lent) t)) (marked-holds plan lent n h e) (p .equations .closed n t i))
 
-  node-passes : (n : ℕ) → n < plan .nodes → nodePasses plan lent n ≡ true
-  node-passes n h =
+  node-passing : (n : ℕ) → n < plan .nodes → nodePassing plan lent n ≡ true
+  node-passing n h =
       true-and (markPlain plan lent n) _ (le-leb (getD (lent .marks) n 0) 1 (p .marks-plain n h))
       (true-and (agesFit plan lent n) _ (row-fits n h)
       (true-and (unmarkedZero plan lent n) _ (true-or (marked lent n) _ (λ e. ap (zeroed (plan .blocks)) (unmarked-zeros n h e) ∙ zeros-zeroed (plan .blocks)))
@@ -227,8 +227,8 @@ module _ (plan : Plan) (lent : Lent) (p : TablePasses plan lent) where
   pub yes-long : tableShort plan lent ≡ false
   yes-long = not-short plan lent (p .must-long) (p .may-long) (p .marks-long)
 
-  pub yes-passes : passes plan lent ≡ true
-  unfolding passes
-  yes-passes =
+  pub yes-passing : passing plan lent ≡ true
+  unfolding passing
+  yes-passing =
       true-and (entryAllows plan lent) _ (below-allows plan lent (planFlow plan .start) (plan .entry) (p .equations .begun))
-      (all-every (plan .nodes) (nodePasses plan lent) node-passes)
+      (all-every (plan .nodes) (nodePassing plan lent) node-passing)

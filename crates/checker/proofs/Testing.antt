@@ -23,10 +23,9 @@ use Rattle.plan.proofs.Holding.{arrows-held, must-limit-held, may-limit-held}
 use Rattle.rows.specs.declared.Row.{Row}
 use Rattle.rows.specs.Rows.{columnsBy, agesIn, asRow}
 use Rattle.tables.specs.Lent.{Lent, agesAt}
-use Rattle.tables.specs.Inner.{Roomy, rowAfter}
-use Rattle.tables.proofs.Meeting.{Agree}
+use Rattle.tables.specs.Inner.{Roomy, rowAfter, AgesAgree}
 use Rattle.tables.proofs.After.{after-agrees, start-agrees}
-use Rattle.checker.specs.Checker.{fits, zeroed, marked, everyOf, rowAges, allows, agesFit, entryAllows, nodePasses}
+use Rattle.checker.specs.Checker.{fits, zeroed, marked, everyOf, rowAges, allows, agesFit, entryAllows, nodePassing}
 use Rattle.checker.specs.Inner.{RowIn}
 
 -- ---- turns
@@ -58,7 +57,7 @@ row-there nodes count lent few roomy t inside =
 
 -- ---- ages that agree
 
-pub allows-agree : (count : ℕ) (a b : Ages) → Agree count a b → (lent : Lent) (t : ℕ) → allows count lent a t ≡ allows count lent b t
+pub allows-agree : (count : ℕ) (a b : Ages) → AgesAgree count a b → (lent : Lent) (t : ℕ) → allows count lent a t ≡ allows count lent b t
 allows-agree count a b agree lent t =
     ap (λ (near : Bool). marked lent t && near)
     (every-same count _ _ (λ j h. λ i. leb (agree .must j h i) (ageOf (rowAt count (lent .must) t) j) && leb (ageOf (rowAt count (lent .may) t) j) (agree .may j h i)))
@@ -92,18 +91,18 @@ module _ {columns plan : List ℕ} (drawn : Drawn columns plan) (lent : Lent) (n
       ∙ (λ i. fits (columnsBy columns (is i)) (rowAges (is i) (lent .must) (lent .may) n))
       ∙ fits-held columns plan (agesAt held lent n)
 
-  pub unmarked-passes : getD (lent .marks) n 0 ≡ 0 → {zero : Bool} → zero ≡ zeroed blocks (rowAges blocks (lent .must) (lent .may) n) → (fit && zero) ≡ nodePasses held lent n
-  unmarked-passes mark e =
+  pub unmarked-passing : getD (lent .marks) n 0 ≡ 0 → {zero : Bool} → zero ≡ zeroed blocks (rowAges blocks (lent .must) (lent .may) n) → (fit && zero) ≡ nodePassing held lent n
+  unmarked-passing mark e =
       rw (mark, and-last) (λ i. fit-held i && (e ∙ (λ j. zeroed (is j) (rowAges (is j) (lent .must) (lent .may) n))) i)
 
   module _ (inside : n < nodesIn plan) (roomy : Roomy (nodesIn plan) (blocksIn plan) (lent .must) (lent .may) (lent .marks))
-      {node : PlannedNode} (found : node ≡ nodeIn plan n) {row : Row} (after : row ≡ rowAfter columns (lent .must) (lent .may) blocks n (node .work)) where
-    after-held : row ≡ rowAfter columns (lent .must) (lent .may) (blocksIn plan) n (nodeIn plan n .work)
-    after-held = after ∙ (λ i. rowAfter columns (lent .must) (lent .may) (is i) n (found i .work))
+      {node : PlannedNode} (found : node ≡ nodeIn plan n) {row : Row} (after : row ≡ rowAfter columns (lent .must) (lent .may) blocks n (node .what)) where
+    after-held : row ≡ rowAfter columns (lent .must) (lent .may) (blocksIn plan) n (nodeIn plan n .what)
+    after-held = after ∙ (λ i. rowAfter columns (lent .must) (lent .may) (is i) n (found i .what))
 
-    pub marked-passes : (getD (lent .marks) n 0 ≡ 0 → ⊥) → {out : Bool} → out ≡ everyOf (allows blocks lent (agesIn row)) (arrowsOf (node .targets))
-        → (leb (getD (lent .marks) n 0) 1 && (fit && out)) ≡ nodePasses held lent n
-    marked-passes mark {out} e =
+    pub marked-passing : (getD (lent .marks) n 0 ≡ 0 → ⊥) → {out : Bool} → out ≡ everyOf (allows blocks lent (agesIn row)) (arrowsOf (node .targets))
+        → (leb (getD (lent .marks) n 0) 1 && (fit && out)) ≡ nodePassing held lent n
+    marked-passing mark {out} e =
         let agrees = after-agrees columns plan drawn n inside lent (roomy .must-room) (roomy .may-room) in
         let out-held : out ≡ everyOf (allows (blocksIn plan) lent (planFlow held .step n (agesAt held lent n))) (arrowsIn held n) =
         e

@@ -5,13 +5,13 @@ use Rattle.lists.proofs.Choice.{same-tests}
 use Rattle.ages.specs.Plan.{Plan, Sound}
 use Rattle.tables.specs.Lent.{Lent, SameUsed}
 use Rattle.tables.proofs.Used.{same-used-back, used-passing}
-use Rattle.checker.specs.Checker.{passes}
-use Rattle.checker.proofs.Deciding.{passes-yes, yes-passes}
+use Rattle.checker.specs.Checker.{passing}
+use Rattle.checker.proofs.Deciding.{passing-yes, yes-passing}
 
 module _ (plan : Plan) (sound : Sound plan) where
-  passes-only : (one other : Lent) → SameUsed plan one other → passes plan one ≡ true → passes plan other ≡ true
-  passes-only one other same e = yes-passes plan other (used-passing plan one other same (passes-yes plan one sound (same .one-long) e))
+  passing-only : (one other : Lent) → SameUsed plan one other → passing plan one ≡ true → passing plan other ≡ true
+  passing-only one other same e = yes-passing plan other (used-passing plan one other same (passing-yes plan one sound (same .one-long) e))
 
-  pub passes-used : (one other : Lent) → SameUsed plan one other → passes plan one ≡ passes plan other
-  passes-used one other same =
-      same-tests (passes plan one) (passes plan other) (passes-only one other same) (passes-only other one (same-used-back plan one other same))
+  pub passing-used : (one other : Lent) → SameUsed plan one other → passing plan one ≡ passing plan other
+  passing-used one other same =
+      same-tests (passing plan one) (passing plan other) (passing-only one other same) (passing-only other one (same-used-back plan one other same))

@@ -1,4 +1,5 @@
-// Whether rows of a lent table allow the ages that come to them.
+// Works out whether rows of a lent table allow the ages that come to them (rules 7.5 and 7.6). Callers keep that these rows and their marks are
+// there, and that a row has no more blocks than a chart may have. Nothing is refused here.
 ghost use mathlib.Core.Path.{_≡_};
 ghost use Rattle.chart.specs.Record.{arrowsOf};
 ghost use Rattle.rows.specs.Rows.{agesIn};
@@ -8,7 +9,7 @@ ghost use Rattle.checker.specs.Inner.{RowIn, TargetsIn};
 use chart::Targets;
 use rows::Row;
 
-// Whether node t is marked, its must ages are no less and its may ages no more than a row's.
+// Whether node t is marked, and has no must age below that of a row and no may age above it.
 pub(crate) fn row_allows(
     must: &[u8],
     may: &[u8],
@@ -30,7 +31,7 @@ pub(crate) fn row_allows(
     (marks[t] != 0) & covers
 }
 
-// Whether a node's targets allow a row.
+// Whether all targets of a node allow a row; true of a node without arrows.
 pub(crate) fn targets_allow(
     must: &[u8],
     may: &[u8],

@@ -1,4 +1,5 @@
-// Tests of the ages in a row of a lent table: that they fit, and that they are 0.
+// Tests of the ages in a row of a lent table: that they fit (rule 7.3), and that they are 0 (rule 7.4). Callers keep that the row is there.
+// Nothing is refused here.
 ghost use mathlib.Core.Path.{_≡_};
 ghost use Prim.Native.Nat.{_+_, _*_, _≤_};
 ghost use lib.ListN.{length};

@@ -1,16 +1,17 @@
-// Whether the nodes of a lent table pass.
+// Works out whether the nodes of a lent table keep rules 7.2 to 7.4 and 7.6; of the entry (rule 7.5) the caller knows. Callers keep that there is
+// room for the table of a plan. Nothing is refused here.
 ghost use mathlib.Core.Path.{_≡_};
 ghost use Prim.Native.Nat.{_<_};
 ghost use Rattle.lists.specs.Choice.{every};
 ghost use Rattle.plan.specs.Listed.{nodesIn, DrawnIn, planAt};
 ghost use Rattle.tables.specs.Contract.{entryTable, RoomFor};
-ghost use Rattle.checker.specs.Checker.{nodePasses};
+ghost use Rattle.checker.specs.Checker.{nodePassing};
 use crate::allowing::targets_allow;
 use crate::fitting::row_fits;
 use crate::fitting::row_zero;
 
 // Whether node n's mark is plain, its ages fit, and its row is 0 where it is not marked, or its targets allow its row after its record.
-fn node_passes(
+fn node_passing(
     columns: &[u8],
     plan: &[u16],
     must: &[u8],
@@ -21,7 +22,7 @@ fn node_passes(
     requires { ⌜ DrawnIn columns plan ⌝ }
     requires { ⌜ RoomFor plan must may marks ⌝ }
     requires { ⌜ n < nodesIn (now plan) ⌝ }
-    ensures { λ r. ⌜ r ≡ nodePasses (planAt columns plan) (entryTable must may marks) n ⌝ }
+    ensures { λ r. ⌜ r ≡ nodePassing (planAt columns plan) (entryTable must may marks) n ⌝ }
 {
     let blocks = plan::blocks_in(plan);
     let fits = row_fits(columns, must, may, blocks, n);
@@ -29,14 +30,14 @@ fn node_passes(
         return fits & row_zero(must, may, blocks, n);
     }
     let node = plan::node_in(plan, n);
-    let work = node.work;
+    let planned = node.what;
     let targets = node.targets;
-    let after = tables::row_after(columns, must, may, blocks, n, work);
+    let after = tables::row_after(columns, must, may, blocks, n, planned);
     (marks[n] <= 1) & (fits & targets_allow(must, may, marks, blocks, after, targets))
 }
 
-// Whether every node passes.
-pub(crate) fn nodes_pass(
+// Whether every node passes. All are tested, though the first that fails decides.
+pub(crate) fn nodes_passing(
     columns: &[u8],
     plan: &[u16],
     must: &[u8],
@@ -45,12 +46,12 @@ pub(crate) fn nodes_pass(
 ) -> bool
     requires { ⌜ DrawnIn columns plan ⌝ }
     requires { ⌜ RoomFor plan must may marks ⌝ }
-    ensures { λ r. ⌜ r ≡ every (nodesIn (now (plan .entry))) (nodePasses (planAt columns plan) (entryTable must may marks)) ⌝ }
+    ensures { λ r. ⌜ r ≡ every (nodesIn (now (plan .entry))) (nodePassing (planAt columns plan) (entryTable must may marks)) ⌝ }
 {
     let nodes = plan::nodes_in(plan);
     let mut pass = true;
     for n in 0..nodes {
-        pass = pass & node_passes(columns, plan, must, may, marks, n);
+        pass = pass & node_passing(columns, plan, must, may, marks, n);
     }
     pass
 }

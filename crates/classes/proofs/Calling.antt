@@ -10,7 +10,7 @@ use Rattle.lists.proofs.Orders.{below-or}
 use Rattle.classes.specs.Class.{hit, miss, unsure, classBy, classesBy}
 
 module _ (limit must may : ℕ) where
-  -- "2 miss (may age is A)"
+  -- Rule 8.1: what is called a miss.
   pub miss-old : classBy limit must may ≡ miss → may ≡ limit
   unfolding classBy
   miss-old e = go (ℕ-discrete may limit)
@@ -23,7 +23,7 @@ module _ (limit must may : ℕ) where
           (λ (old : limit ≤ must). let z = (rw (le-ltb must limit old, ne-eqb may limit p) at e) in absurd (omega arith))
           (below-or must limit)
 
-  -- "1 hit (must age below A)"
+  -- Rule 8.1: what is called a hit.
   pub hit-young : classBy limit must may ≡ hit → must < limit
   unfolding classBy
   hit-young e = ⊎-elim (λ (young : must < limit). young) (λ (old : limit ≤ must). absurd (unless old (ℕ-discrete may limit))) (below-or must limit)

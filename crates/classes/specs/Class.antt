@@ -1,4 +1,6 @@
--- The classes. Document 01, "Ages and equations": "Class of a node, first that applies".
+-- The classes of touches and of nodes. Rules 8.1 and 8.2.
+-- Choices: A is here the most that the must age of a column can be, also for a miss; a node has the class of its first touch, and there is
+-- never a second.
 use Prim.Native.Nat.{ℕ}
 use mathlib.Core.Bool.{Bool, true, false}
 use mathlib.Core.Logic.{_⊎_}
@@ -6,13 +8,14 @@ use mathlib.Core.Path.{_≡_}
 use mathlib.Core.List.{List, [], _∷_}
 use lib.ListN.{getD}
 use lib.Dec.{ltb, eqb}
-use Rattle.lists.specs.Choice.{_⇒_, firstRule}
+use Rattle.lists.specs.Choice.{_⇒_, firstCase}
 use Rattle.lists.specs.Lists.{listOf}
 use Rattle.cache.specs.Ages.{Ages, ageOf}
 use Rattle.flow.specs.Flow.{Cell, blank, holds, cellAt}
 use Rattle.ages.specs.declared.ColumnTouch.{ColumnTouch}
-use Rattle.ages.specs.Plan.{Plan, columnsOf, touchesIn, touched}
+use Rattle.ages.specs.Plan.{Plan, columnsOf, touchesIn, afterTouch}
 
+-- Rule 8.1: the numbers of the classes.
 abbrev pub unreached : ℕ
 unreached = 0
 
@@ -28,35 +31,34 @@ unsure = 3
 abbrev pub none : ℕ
 none = 4
 
--- The class of a touch by the block's must and may age: "1 hit (must age below A), 2 miss (may age is A), 3 unsure". Document 01's A is
--- here the most that the must age can be.
+-- Rule 8.1: the class of a touch, by the must limit and by the block's must and may age.
 unfoldable pub classBy : ℕ → ℕ → ℕ → ℕ
 classBy limit must may =
-    firstRule (λ class. class)
+    firstCase (λ class. class)
     ((ltb must limit ⇒ hit)
     ∷ (eqb may limit ⇒ miss)
     ∷ [])
     unsure
 
--- The class of one touch, read from the state just before it.
+-- Rule 8.2: the class of one touch, read from the state just before it.
 abbrev pub classOf : Plan → ColumnTouch → Ages → ℕ
 classOf plan touch a =
     classBy (columnsOf plan .mustLimit (touch .column)) (ageOf (a .must) (touch .column)) (ageOf (a .may) (touch .column))
 
--- The classes of touches in turn, for any kind of touch and state.
+-- Rule 8.2: the classes of touches in turn, each from the state just before it, for any kind of touch and state.
 abbrev pub classesBy : {E S : Type 0} → (E → S → ℕ) → (E → S → S) → List E → S → List ℕ
 classesBy classAt touchedBy [] a = []
 classesBy classAt touchedBy (touch ∷ touches) a = classAt touch a ∷ classesBy classAt touchedBy touches (touchedBy touch a)
 
 abbrev pub classesOf : Plan → List ColumnTouch → Ages → List ℕ
-classesOf plan touches a = classesBy (classOf plan) (touched plan) touches a
+classesOf plan touches a = classesBy (classOf plan) (afterTouch plan) touches a
 
--- The class of a node: "0 unreached (unmarked), 4 none (bare step)", else that of its touch.
+-- Rule 8.1: the class of a node, its touch's if it has a mark and a touch.
 abbrev pub nodeClass : Plan → ℕ → Cell Ages → ℕ
 nodeClass plan n blank = unreached
 nodeClass plan n (holds a) = getD (classesOf plan (touchesIn plan n) a) 0 none
 
--- The class of each node.
+-- Rule 8.1: the class of each node.
 abbrev pub tableClasses : Plan → List (Cell Ages) → List ℕ
 tableClasses plan table = listOf (plan .nodes) (λ n. nodeClass plan n (cellAt table n))
 

@@ -10,16 +10,16 @@ use Rattle.flow.specs.Flow.{cellAt}
 use Rattle.ages.specs.declared.ColumnTouch.{ColumnTouch}
 use Rattle.ages.specs.Plan.{Plan}
 use Rattle.classes.specs.Class.{unreached, none, classBy, classesOf, nodeClass}
-use Rattle.plan.specs.declared.Work.{Work}
-use Rattle.plan.specs.declared.Work.the-variants.{Step, Reference}
-use Rattle.plan.specs.Listed.{nodesIn, blocksIn, nodeIn, touchesBy, planIn, Drawn, WorkIn}
-use Rattle.plan.proofs.Holding.{touches-held, must-limit-held, work-in}
+use Rattle.plan.specs.declared.PlannedRecord.{PlannedRecord}
+use Rattle.plan.specs.declared.PlannedRecord.the-variants.{Step, Reference}
+use Rattle.plan.specs.Listed.{nodesIn, blocksIn, nodeIn, touchesBy, planIn, Drawn, RecordIn}
+use Rattle.plan.proofs.Holding.{touches-held, must-limit-held, record-in}
 use Rattle.tables.specs.Lent.{Lent, agesAt, tableOf}
 use Rattle.tables.proofs.Laid.{tableOf-at}
 
 -- A reference is of one of the columns.
-pub reference-in : (columns plan : List ℕ) → Drawn columns plan → (n : ℕ) → n < nodesIn plan → (touch : ColumnTouch) → nodeIn plan n .work ≡ Reference touch → touch .column < blocksIn plan
-reference-in columns plan drawn n inside touch does = subst (WorkIn (blocksIn plan)) does (work-in columns plan drawn n inside)
+pub reference-in : (columns plan : List ℕ) → Drawn columns plan → (n : ℕ) → n < nodesIn plan → (touch : ColumnTouch) → nodeIn plan n .what ≡ Reference touch → touch .column < blocksIn plan
+reference-in columns plan drawn n inside touch does = subst (RecordIn (blocksIn plan)) does (record-in columns plan drawn n inside)
 
 module _ (columns plan : List ℕ) (lent : Lent) (n : ℕ) (inside : n < nodesIn plan) where
   abbrev held : Plan
@@ -33,19 +33,19 @@ module _ (columns plan : List ℕ) (lent : Lent) (n : ℕ) (inside : n < nodesIn
 
   module _ (marked : getD (lent .marks) n 0 ≡ 0 → ⊥) where
     -- A marked node's class is that of the first of its touches.
-    work-class : (work : Work) → nodeIn plan n .work ≡ work → getD (classesOf held (touchesBy work) (agesAt held lent n)) 0 none ≡ class
-    work-class work e =
+    record-class : (planned : PlannedRecord) → nodeIn plan n .what ≡ planned → getD (classesOf held (touchesBy planned) (agesAt held lent n)) 0 none ≡ class
+    record-class planned e =
         rw (tableOf-at held lent n inside, ne-eqb (getD (lent .marks) n 0) 0 marked)
         (ap (λ (touches : List ColumnTouch). getD (classesOf held touches (agesAt held lent n)) 0 none) (sym (touches-held columns plan n inside ∙ ap touchesBy e)))
 
-    pub step-class : nodeIn plan n .work ≡ Step → none ≡ class
-    step-class e = work-class Step e
+    pub step-class : nodeIn plan n .what ≡ Step → none ≡ class
+    step-class e = record-class Step e
 
-    pub reference-class : Drawn columns plan → (touch : ColumnTouch) → nodeIn plan n .work ≡ Reference touch
+    pub reference-class : Drawn columns plan → (touch : ColumnTouch) → nodeIn plan n .what ≡ Reference touch
         → classBy (getD columns (mostBlocks + touch .column) 0) (getD (lent .must) (n * blocksIn plan + touch .column) 0) (getD (lent .may) (n * blocksIn plan + touch .column) 0) ≡ class
     reference-class drawn touch does =
         let column : touch .column < blocksIn plan = reference-in columns plan drawn n inside touch does in
         let limit = must-limit-held columns plan (touch .column) column in
         let must = getD-listOf (blocksIn plan) (λ k. getD (lent .must) (n * blocksIn plan + k) 0) 0 (touch .column) column in
         let may = getD-listOf (blocksIn plan) (λ k. getD (lent .may) (n * blocksIn plan + k) 0) 0 (touch .column) column in
-        sym (λ i. classBy (limit i) (must i) (may i)) ∙ work-class (Reference touch) does
+        sym (λ i. classBy (limit i) (must i) (may i)) ∙ record-class (Reference touch) does

@@ -1,4 +1,5 @@
-// The class of each node of a lent table, once for the analysis, which writes it, and for the totals, which count by it.
+// Works out the class of each node of a lent table (rules 8.1 and 8.2), for the analysis, which leaves it, and the totals, which sum by it.
+// Callers keep that there is room for the table, and for the classes. Nothing is refused here.
 ghost use mathlib.Core.Path.{_≡_};
 ghost use Prim.Native.Nat.{_≤_, _<_};
 ghost use lib.ListN.{length};
@@ -8,9 +9,9 @@ ghost use Rattle.plan.specs.Listed.{nodesIn, DrawnIn, planAt};
 ghost use Rattle.tables.specs.Lent.{tableOf};
 ghost use Rattle.tables.specs.Contract.{entryTable, RoomFor};
 ghost use Rattle.classes.specs.Class.{classBy, nodeClass, tableClasses};
-use plan::Work;
+use plan::PlannedRecord;
 
-// Document 01's numbers of the classes.
+// The numbers of the classes (rule 8.1).
 pub const UNREACHED: u8 = 0;
 
 pub const HIT: u8 = 1;
@@ -45,8 +46,8 @@ fn class_at(columns: &[u8], plan: &[u16], must: &[u8], may: &[u8], marks: &[u8],
         return UNREACHED;
     }
     let node = plan::node_in(plan, n);
-    let work = node.work;
-    let Work::Reference(touch) = work else {
+    let planned = node.what;
+    let PlannedRecord::Reference(touch) = planned else {
         return NONE;
     };
     let column = touch.column;
@@ -54,7 +55,7 @@ fn class_at(columns: &[u8], plan: &[u16], must: &[u8], may: &[u8], marks: &[u8],
     class_of(columns[plan::MUST_LIMITS + column], must[place], may[place])
 }
 
-// The classes of all nodes, over the start of `classes`.
+// Writes the class of each node over the start of `classes`, which keeps the rest.
 pub fn write_classes(
     columns: &[u8],
     plan: &[u16],

@@ -1,4 +1,6 @@
--- What classes cost, and the two totals of a table. Document 01, "Totals".
+-- What classes cost, and the two totals of a table. Rules 10.1 to 10.3, for any states and touches, and then of a plan.
+-- Choices: costs, floors and ceilings are any numbers, since no test and no sum depends on their width, and `totals::total` takes them in 16
+-- bits; a floor or ceiling that is not there counts as 0, and refusal 14 comes before.
 use Prim.Native.Nat.{ℕ, _+_, _*_}
 use mathlib.Core.Bool.{cond, _||_}
 use mathlib.Core.List.{List, [], _∷_}
@@ -10,44 +12,47 @@ use Rattle.flow.specs.Flow.{Cell, blank, holds, cellAt}
 use Rattle.ages.specs.Plan.{Plan, touchesIn}
 use Rattle.classes.specs.Class.{unreached, hit, miss, none, classesOf}
 
--- "The caller gives a hit cost and a miss cost, and a floor and a ceiling for each node, all 16 bits." Here they are any numbers: no rule
--- and no sum depends on their width, and `totals::total` takes them in 16 bits.
-pub record Prices : Type 0 where
-  pub hitCost : ℕ
-  pub missCost : ℕ
+-- Rule 10.1: the two costs.
+pub record Costs : Type 0 where
+  pub hit : ℕ
+  pub miss : ℕ
+
+-- Rule 10.1: all that is given.
+pub record Figures : Type 0 where
+  pub costs : Costs
   pub floors : List ℕ
   pub ceilings : List ℕ
 
--- "ceiling times hit cost for class 1, else times miss cost"
-abbrev pub highRate : Prices → ℕ → ℕ
-highRate prices class = cond (eqb class hit) (prices .hitCost) (prices .missCost)
+-- Rule 10.2: what a ceiling is multiplied with, by the class.
+abbrev pub highRate : Costs → ℕ → ℕ
+highRate costs class = cond (eqb class hit) (costs .hit) (costs .miss)
 
--- "floor times miss cost for class 2, else times hit cost"
-abbrev pub lowRate : Prices → ℕ → ℕ
-lowRate prices class = cond (eqb class miss) (prices .missCost) (prices .hitCost)
+-- Rule 10.3: what a floor is multiplied with, by the class.
+abbrev pub lowRate : Costs → ℕ → ℕ
+lowRate costs class = cond (eqb class miss) (costs .miss) (costs .hit)
 
 -- What these classes cost at a rate, in all.
 abbrev pub ratesOf : (ℕ → ℕ) → List ℕ → ℕ
 ratesOf rate [] = 0
 ratesOf rate (class ∷ classes) = rate class + ratesOf rate classes
 
--- What one visit of a node counts, by the classes of its touches: nothing at an unmarked node or a bare step.
+-- Rules 10.2 and 10.3: what one visit of a node counts, by the classes of its touches. Nothing at an unmarked node or a bare step.
 abbrev pub visitCost : {S : Type 0} → (S → List ℕ) → (ℕ → ℕ) → Cell S → ℕ
 visitCost classes rate blank = 0
 visitCost classes rate (holds a) = ratesOf rate (classes a)
 
--- "adds, over marked references": so many times what one visit counts, over all nodes.
+-- Rules 10.2 and 10.3: so many times what one visit counts, over all nodes. Only references that are marked count anything.
 unfoldable pub totalBy : {S : Type 0} → ℕ → (ℕ → S → List ℕ) → List (Cell S) → (ℕ → ℕ) → List ℕ → ℕ
 totalBy nodes classesAt table rate times =
     sumOf nodes (λ n. getD times n 0 * visitCost (classesAt n) rate (cellAt table n))
 
--- "The high total adds, over marked references, ceiling times .."
-abbrev pub highTotalBy : {S : Type 0} → ℕ → (ℕ → S → List ℕ) → List (Cell S) → Prices → ℕ
-highTotalBy nodes classesAt table prices = totalBy nodes classesAt table (highRate prices) (prices .ceilings)
+-- Rule 10.2, for any states.
+abbrev pub highTotalBy : {S : Type 0} → ℕ → (ℕ → S → List ℕ) → List (Cell S) → Figures → ℕ
+highTotalBy nodes classesAt table figures = totalBy nodes classesAt table (highRate (figures .costs)) (figures .ceilings)
 
--- "The low total adds floor times .."
-abbrev pub lowTotalBy : {S : Type 0} → ℕ → (ℕ → S → List ℕ) → List (Cell S) → Prices → ℕ
-lowTotalBy nodes classesAt table prices = totalBy nodes classesAt table (lowRate prices) (prices .floors)
+-- Rule 10.3, for any states.
+abbrev pub lowTotalBy : {S : Type 0} → ℕ → (ℕ → S → List ℕ) → List (Cell S) → Figures → ℕ
+lowTotalBy nodes classesAt table figures = totalBy nodes classesAt table (lowRate (figures .costs)) (figures .floors)
 
 -- ---- of a plan
 
@@ -55,12 +60,14 @@ lowTotalBy nodes classesAt table prices = totalBy nodes classesAt table (lowRate
 abbrev pub classesAt : Plan → ℕ → Ages → List ℕ
 classesAt plan n a = classesOf plan (touchesIn plan n) a
 
-abbrev pub highTotal : Plan → List (Cell Ages) → Prices → ℕ
-highTotal plan table prices = highTotalBy (plan .nodes) (classesAt plan) table prices
+-- Rule 10.2: the high total of a table.
+abbrev pub highTotal : Plan → List (Cell Ages) → Figures → ℕ
+highTotal plan table figures = highTotalBy (plan .nodes) (classesAt plan) table figures
 
-abbrev pub lowTotal : Plan → List (Cell Ages) → Prices → ℕ
-lowTotal plan table prices = lowTotalBy (plan .nodes) (classesAt plan) table prices
+-- Rule 10.3: the low total of a table.
+abbrev pub lowTotal : Plan → List (Cell Ages) → Figures → ℕ
+lowTotal plan table figures = lowTotalBy (plan .nodes) (classesAt plan) table figures
 
--- What one visit of a node of this class counts, where a node has at most one touch: nothing at an unmarked node or a bare step.
+-- Rules 10.2 and 10.3: the same by the node's class, where a node has at most one touch.
 abbrev pub classCost : (ℕ → ℕ) → ℕ → ℕ
 classCost rate class = cond (eqb class unreached || eqb class none) 0 (rate class)

@@ -12,44 +12,38 @@ use Rattle.chart.specs.Chart.{Chart, Read, accepted, refused, readChart, blockC
 use Rattle.cache.specs.Ages.{Ages}
 use Rattle.flow.specs.Flow.{Cell}
 use Rattle.flow.specs.Pass.{Outcome, settled, spent, settle}
-use Rattle.flow.proofs.Ending.{settle-says, settle-spends}
+use Rattle.flow.proofs.Ending.{settle-after, settle-spends}
 use Rattle.flow.proofs.Outcomes.{settle-spent}
 use Rattle.ages.specs.Charted.{planOf, agesFlow}
 use Rattle.tables.specs.Lent.{Lent, agesUsed, marksUsed, lentOf}
-use Rattle.tables.proofs.Laid.{Shaped, must-laid, may-laid, marks-laid, long-enough}
-use Rattle.tables.proofs.Shaping.{afterPasses-shaped}
+use Rattle.tables.specs.Fitting.{TableFits}
+use Rattle.tables.proofs.Laid.{must-laid, may-laid, marks-laid, long-enough}
+use Rattle.tables.proofs.Fitting.{afterPasses-fits}
 use Rattle.analysis.specs.declared.Analysed.the-variants.{Settled, Unsettled, Refused}
 use Rattle.classes.specs.Class.{tableClasses}
 use Rattle.analysis.proofs.Room.{room-parts}
 use Rattle.analysis.specs.Analysis.{Buffers, Left, tableIn, classesUsed, buffersShort, fill, zeroLent, filledBy, refuse, finish, analyseRead, analysed}
 use Rattle.demands.specs.Demand1.{AllChange, AnalysisRefusals, SameLengths}
+use Rattle.demands.specs.Inner.{Done}
 
 -- ---- what it answers
 
 module _ (bytes : List ℕ) (chart : Chart) (allowance : ℕ) (lent : Buffers) (read : readChart bytes ≡ accepted chart) where
-  answered : analysed bytes allowance lent ≡ cond (buffersShort (planOf chart) lent) (refuse lent ShortBuffer) (finish (planOf chart) (chart .blocks) allowance lent (settle (agesFlow chart) allowance))
+  accepted-analysed : analysed bytes allowance lent ≡ cond (buffersShort (planOf chart) lent) (refuse lent ShortBuffer) (finish (planOf chart) (chart .blocks) allowance lent (settle (agesFlow chart) allowance))
   unfolding analysed
-  answered = rw read
+  accepted-analysed = rw read
 
   answered-short : buffersShort (planOf chart) lent ≡ true → analysed bytes allowance lent ≡ refuse lent ShortBuffer
-  answered-short e = answered ∙ (rw e)
+  answered-short e = accepted-analysed ∙ (rw e)
 
   answered-outcome : buffersShort (planOf chart) lent ≡ false → (o : Outcome Ages) → settle (agesFlow chart) allowance ≡ o → analysed bytes allowance lent ≡ finish (planOf chart) (chart .blocks) allowance lent o
-  answered-outcome e o q = answered ∙ (rw (e, q))
+  answered-outcome e o q = accepted-analysed ∙ (rw (e, q))
 
-  -- An analysis that settled: with room, at this table, which it leaves.
-  pub record Done (passes blocks : ℕ) : Type 0 where
-    pub room : buffersShort (planOf chart) lent ≡ false
-    pub table : List (Cell Ages)
-    pub outcome : settle (agesFlow chart) allowance ≡ settled passes table
-    pub counted : blocks ≡ blockCount chart
-    pub left : analysed bytes allowance lent ≡ record { answer = Settled passes (blockCount chart); buffers = filledBy (planOf chart) (chart .blocks) table lent }
-
-  pub settled-done : (passes blocks : ℕ) → analysed bytes allowance lent .answer ≡ Settled passes blocks → Done passes blocks
+  pub settled-done : (passes blocks : ℕ) → analysed bytes allowance lent .answer ≡ Settled passes blocks → Done bytes chart allowance lent passes blocks
   unfolding finish
   settled-done passes blocks e = go (buffersShort (planOf chart) lent) refl (settle (agesFlow chart) allowance) refl
     where
-      go : (short : Bool) → buffersShort (planOf chart) lent ≡ short → (o : Outcome Ages) → settle (agesFlow chart) allowance ≡ o → Done passes blocks
+      go : (short : Bool) → buffersShort (planOf chart) lent ≡ short → (o : Outcome Ages) → settle (agesFlow chart) allowance ≡ o → Done bytes chart allowance lent passes blocks
       go true s o q =
           let says : analysed bytes allowance lent .answer ≡ Refused ShortBuffer = ap (λ (l : Left). l .answer) (answered-short s) in
           let z : _≡_ {A = ℕ} 0 1 = cc in
@@ -66,7 +60,7 @@ module _ (bytes : List ℕ) (chart : Chart) (allowance : ℕ) (lent : Buffers) (
             room = s;
             table = U;
             outcome = q ∙ ap (λ (n : ℕ). settled n U) made;
-            counted = of;
+            count-is = of;
             left = answered-outcome s (settled k U) q ∙ ap (λ (n : ℕ). record { answer = Settled n (blockCount chart); buffers = filledBy (planOf chart) (chart .blocks) U lent }) made;
           }
 
@@ -75,9 +69,9 @@ module _ (bytes : List ℕ) (chart : Chart) (allowance : ℕ) (lent : Buffers) (
   unfolding finish
   done-settled room k U q = ap (λ (l : Left). l .answer) (answered-outcome room (settled k U) q)
 
-  pub analysis : AnalysisRefusals bytes chart allowance lent
+  pub analysis-refusals : AnalysisRefusals bytes chart allowance lent
   unfolding finish
-  analysis =
+  analysis-refusals =
       record {
         short = answered-short;
         unsettled = λ room all. answered-outcome room spent (settle-spent (agesFlow chart) allowance all);
@@ -111,8 +105,8 @@ module _ (chart : Chart) (lent : Buffers) (room : buffersShort (planOf chart) le
   finished-lengths : (allowance : ℕ) (o : Outcome Ages) → settle (agesFlow chart) allowance ≡ o → SameLengths lent (finish (planOf chart) (chart .blocks) allowance lent o .buffers)
   unfolding finish
   finished-lengths allowance (settled k U) q =
-      let shaped = subst (Shaped (planOf chart)) (sym (settle-says (agesFlow chart) allowance k U q .table)) (afterPasses-shaped (planOf chart) k) in
-      filled-lengths (lentOf (planOf chart) U) (tableClasses (planOf chart) U) (must-laid (planOf chart) shaped) (may-laid (planOf chart) shaped) (marks-laid (planOf chart) shaped) (length-listOf (chart .header .nodes) _)
+      let fits = subst (TableFits (planOf chart)) (sym (settle-after (agesFlow chart) allowance k U q .table)) (afterPasses-fits (planOf chart) k) in
+      filled-lengths (lentOf (planOf chart) U) (tableClasses (planOf chart) U) (must-laid (planOf chart) fits) (may-laid (planOf chart) fits) (marks-laid (planOf chart) fits) (length-listOf (chart .header .nodes) _)
   finished-lengths allowance spent q =
       filled-lengths (zeroLent (planOf chart)) (replicate (classesUsed (planOf chart)) 0) (length-replicate _ _) (length-replicate _ _) (length-replicate _ _) (length-replicate _ _)
 

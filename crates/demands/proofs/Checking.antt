@@ -10,47 +10,48 @@ use Rattle.tables.specs.Lent.{Lent, tableShort, TablePasses, SameUsed}
 use Rattle.ages.specs.Charted.{planOf}
 use Rattle.ages.proofs.Charting.{chart-sound}
 use Rattle.checker.specs.declared.Checked.{Checked}
-use Rattle.checker.specs.declared.Checked.the-variants.{Passes, Fails}
-use Rattle.checker.specs.Checker.{passes, checked, checkedSays}
-use Rattle.checker.proofs.Answers.{answerOf, checked-accepted}
-use Rattle.checker.proofs.Deciding.{passes-yes, yes-long, yes-passes}
-use Rattle.checker.proofs.Used.{passes-used}
+use Rattle.checker.specs.declared.Checked.the-variants.{Yes, No}
+use Rattle.checker.specs.Checker.{passing, checked, checkedSays}
+use Rattle.checker.specs.Inner.{answerOf}
+use Rattle.checker.proofs.Answers.{checked-accepted}
+use Rattle.checker.proofs.Deciding.{passing-yes, yes-long, yes-passing}
+use Rattle.checker.proofs.Used.{passing-used}
 use Rattle.demands.specs.Demand1.{CheckerRefusals}
 
 -- ---- what it answers
 
-says-yes : (short passing : Bool) → checkedSays (answerOf short passing) .yes ≡ 1 → (short ≡ false) × (passing ≡ true)
-says-yes true passing e = absurd (omega arith)
+says-yes : (short pass : Bool) → checkedSays (answerOf short pass) .yes ≡ 1 → (short ≡ false) × (pass ≡ true)
+says-yes true pass e = absurd (omega arith)
 says-yes false true e = (refl, refl)
 says-yes false false e = absurd (omega arith)
 
 module _ (bytes : List ℕ) (chart : Chart) (table : Lent) (read : readChart bytes ≡ accepted chart) where
-  pub checker : CheckerRefusals bytes chart table
-  checker =
+  pub checker-refusals : CheckerRefusals bytes chart table
+  checker-refusals =
       record {
         short = λ e. checked-accepted bytes chart table read ∙ (rw e);
-        answers = λ e. answers (passes (planOf chart) table) (checked-accepted bytes chart table read ∙ (rw e));
+        answers = λ e. answers (passing (planOf chart) table) (checked-accepted bytes chart table read ∙ (rw e));
       }
     where
-      answers : (passing : Bool) → checked bytes table ≡ cond passing Passes Fails → (checked bytes table ≡ Passes) ⊎ (checked bytes table ≡ Fails)
+      answers : (pass : Bool) → checked bytes table ≡ cond pass Yes No → (checked bytes table ≡ Yes) ⊎ (checked bytes table ≡ No)
       answers true e = inl e
       answers false e = inr e
 
   pub checker-yes : checkedSays (checked bytes table) .yes ≡ 1 → TablePasses (planOf chart) table
   checker-yes e =
-      let both = says-yes (tableShort (planOf chart) table) (passes (planOf chart) table) (ap (λ (c : Checked). checkedSays c .yes) (sym (checked-accepted bytes chart table read)) ∙ e) in
-      passes-yes (planOf chart) table (chart-sound bytes chart read) (both .0) (both .1)
+      let both = says-yes (tableShort (planOf chart) table) (passing (planOf chart) table) (ap (λ (c : Checked). checkedSays c .yes) (sym (checked-accepted bytes chart table read)) ∙ e) in
+      passing-yes (planOf chart) table (chart-sound bytes chart read) (both .0) (both .1)
 
-  passes-checked : TablePasses (planOf chart) table → checked bytes table ≡ Passes
-  passes-checked p = checked-accepted bytes chart table read ∙ (rw (yes-long (planOf chart) table p, yes-passes (planOf chart) table p))
+  passing-checked : TablePasses (planOf chart) table → checked bytes table ≡ Yes
+  passing-checked p = checked-accepted bytes chart table read ∙ (rw (yes-long (planOf chart) table p, yes-passing (planOf chart) table p))
 
   pub yes-checker : TablePasses (planOf chart) table → checkedSays (checked bytes table) .yes ≡ 1
   yes-checker p =
-      ap (λ (c : Checked). checkedSays c .yes) (passes-checked p)
+      ap (λ (c : Checked). checkedSays c .yes) (passing-checked p)
 
--- "Both read only the used parts of a lent table"
+-- Rule 12.7, of the checker.
 pub checker-used : (bytes : List ℕ) (chart : Chart) (one other : Lent) → readChart bytes ≡ accepted chart → SameUsed (planOf chart) one other → checked bytes one ≡ checked bytes other
 checker-used bytes chart one other read same =
     checked-accepted bytes chart one read
-    ∙ (λ i. answerOf ((same .one-long ∙ sym (same .other-long)) i) (passes-used (planOf chart) (chart-sound bytes chart read) one other same i))
+    ∙ (λ i. answerOf ((same .one-long ∙ sym (same .other-long)) i) (passing-used (planOf chart) (chart-sound bytes chart read) one other same i))
     ∙ sym (checked-accepted bytes chart other read)

@@ -15,6 +15,7 @@ use Rattle.chart.proofs.Saying.{accepted-says}
 use Rattle.chart.proofs.Accepted.{accepted-nodes, accepted-ways, accepted-few}
 use Rattle.cache.specs.Ages.{Ages}
 use Rattle.cache.specs.Plain.{Cache, Formed, emptyCache}
+use Rattle.cache.proofs.Published.{as-published}
 use Rattle.machine.specs.Machine.{waysOf, keyOf, BeginsWith, plainMachine}
 use Rattle.flow.specs.Flow.{Cell, cellAt}
 use Rattle.flow.specs.Passing.{Marked, Tightest}
@@ -23,8 +24,9 @@ use Rattle.flow.proofs.Outcomes.{settle-agree}
 use Rattle.ages.specs.Charted.{blockAt, isEmpty, planOf, agesFlow, mostPasses}
 use Rattle.ages.proofs.Charting.{key-alike, set-alike, must-limit-planned, may-limit-planned, limits-planned, enough-planned, chart-sound, reached-planned, planned-reached}
 use Rattle.tables.specs.Lent.{agesUsed}
-use Rattle.tables.proofs.Laid.{Shaped, table-over, not-short, over-passes}
-use Rattle.tables.proofs.Shaping.{afterPasses-shaped}
+use Rattle.tables.specs.Fitting.{TableFits}
+use Rattle.tables.proofs.Laid.{table-over, not-short, over-passes}
+use Rattle.tables.proofs.Fitting.{afterPasses-fits}
 use Rattle.ages.proofs.Settled.{settles-within, settled-tightest, settled-passes, settled-made, settled-last, settled-earlier, settled-table, settled-marked}
 use Rattle.analysis.specs.declared.Analysed.the-variants.{Settled, Refused}
 use Rattle.analysis.specs.Analysis.{Buffers, Left, buffersShort, filledBy, tableIn, analysed}
@@ -33,7 +35,8 @@ use Rattle.demands.specs.Demand2.{ShapeSaid, Settles, Demand2}
 use Rattle.demands.proofs.Refusals.{reading-refusals}
 use Rattle.demands.proofs.Checking.{checker-yes, yes-checker}
 use Rattle.analysis.proofs.Room.{room-parts, parts-room}
-use Rattle.demands.proofs.Analysing.{Done, settled-done, done-settled}
+use Rattle.demands.specs.Inner.{Done}
+use Rattle.demands.proofs.Analysing.{settled-done, done-settled}
 
 -- ---- the shape that the bytes say
 
@@ -66,10 +69,10 @@ shape-said bytes chart small read =
 
 -- ---- an analysis that settles
 
-module _ (bytes : List ℕ) (chart : Chart) (read : readChart bytes ≡ accepted chart) (allowance passes blocks : ℕ) (lent : Buffers) (done : Done bytes chart allowance lent read passes blocks) where
-  shaped : Shaped (planOf chart) (done .table)
-  shaped =
-      subst (Shaped (planOf chart)) (sym (settled-table (planOf chart) (chart-sound bytes chart read) allowance passes (done .table) (done .outcome))) (afterPasses-shaped (planOf chart) passes)
+module _ (bytes : List ℕ) (chart : Chart) (read : readChart bytes ≡ accepted chart) (allowance passes blocks : ℕ) (lent : Buffers) (done : Done bytes chart allowance lent passes blocks) where
+  fits : TableFits (planOf chart) (done .table)
+  fits =
+      subst (TableFits (planOf chart)) (sym (settled-table (planOf chart) (chart-sound bytes chart read) allowance passes (done .table) (done .outcome))) (afterPasses-fits (planOf chart) passes)
 
   tightest : Tightest (agesFlow chart) (done .table)
   tightest = settled-tightest (planOf chart) (chart-sound bytes chart read) allowance passes (done .table) (done .outcome)
@@ -77,10 +80,10 @@ module _ (bytes : List ℕ) (chart : Chart) (read : readChart bytes ≡ accepted
   done-settles : Settles chart passes blocks lent (filledBy (planOf chart) (chart .blocks) (done .table) lent)
   done-settles =
       let same = settled-table (planOf chart) (chart-sound bytes chart read) allowance passes (done .table) (done .outcome) in
-      let kept = table-over (planOf chart) shaped (tableIn lent) in
+      let table-is = table-over (planOf chart) fits (tableIn lent) in
       let reach = settled-marked (planOf chart) (chart-sound bytes chart read) allowance passes (done .table) (done .outcome) in
       record {
-        counted = done .counted;
+        blocks-is = done .count-is;
         made = settled-made (planOf chart) (chart-sound bytes chart read) allowance passes (done .table) (done .outcome);
         last = settled-last (planOf chart) (chart-sound bytes chart read) allowance passes (done .table) (done .outcome);
         earlier = settled-earlier (planOf chart) (chart-sound bytes chart read) allowance passes (done .table) (done .outcome);
@@ -88,11 +91,11 @@ module _ (bytes : List ℕ) (chart : Chart) (read : readChart bytes ≡ accepted
             let most = settled-passes (planOf chart) (chart-sound bytes chart read) (chart .header .geometry .ways) (limits-planned chart) allowance passes (done .table) (done .outcome) in
             omega (arith, enough-planned chart);
         filled = ap (λ (T : List (Cell Ages)). filledBy (planOf chart) (chart .blocks) T lent) same;
-        table = kept ∙ same;
-        table-passes = over-passes (planOf chart) shaped (tightest .passes) (tableIn lent) (room-parts (planOf chart) lent (done .room) .1 .0);
-        tightest = subst (Tightest (agesFlow chart)) (sym kept) tightest;
-        marked-reached = λ n m. planned-reached bytes chart read n (reach n .0 (subst (λ (T : List (Cell Ages)). Marked (cellAt T n)) kept m));
-        reached-marked = λ n r. subst (λ (T : List (Cell Ages)). Marked (cellAt T n)) (sym kept) (reach n .1 (reached-planned bytes chart read n r));
+        table = table-is ∙ same;
+        table-passes = over-passes (planOf chart) fits (tightest .passing) (tableIn lent) (room-parts (planOf chart) lent (done .room) .1 .0);
+        tightest = subst (Tightest (agesFlow chart)) (sym table-is) tightest;
+        marked-reached = λ n m. planned-reached bytes chart read n (reach n .0 (subst (λ (T : List (Cell Ages)). Marked (cellAt T n)) table-is m));
+        reached-marked = λ n r. subst (λ (T : List (Cell Ages)). Marked (cellAt T n)) (sym table-is) (reach n .1 (reached-planned bytes chart read n r));
       }
 
 settled-settles : (bytes : List ℕ) (chart : Chart) (allowance passes blocks : ℕ) (lent : Buffers) → readChart bytes ≡ accepted chart → analysed bytes allowance lent .answer ≡ Settled passes blocks
@@ -163,6 +166,7 @@ program-enough bytes chart read =
 pub demand2 : Demand2
 demand2 =
     record {
+      published = as-published;
       shape-said = shape-said;
       keys-sets = key-alike;
       sets-keys = set-alike;

@@ -6,15 +6,16 @@ use mathlib.Core.Path.{_≡_, refl, ap, subst}
 use native.Mathlib.Omega.{arith}
 use borrow.Author.Tests.{leb-true}
 use lib.Dec.{leb}
-use Rattle.lists.specs.Choice.{Rule, FirstApplies}
-use Rattle.lists.proofs.Choice.{applies-first, everyAnswer, answer-passes}
+use Rattle.lists.specs.Choice.{Case, FirstApplies}
+use Rattle.lists.specs.Answers.{everyAnswer}
+use Rattle.lists.proofs.Choice.{applies-first, answer-passes}
 use Rattle.refusals.specs.declared.Refusal.{Refusal}
 use Rattle.refusals.specs.declared.Refusal.the-variants.{ShortBuffer}
 use Rattle.chart.specs.declared.headers.HeaderRead.{HeaderRead}
 use Rattle.chart.specs.declared.headers.HeaderRead.the-variants.{Accepted, Refused}
-use Rattle.chart.specs.Header.{headerIn, bytesRules, headerRead, headerSays}
+use Rattle.chart.specs.Header.{headerIn, bytesCases, headerRead, headerSays}
 use Rattle.refusals.specs.Refusals.{numberOf, placeOf}
-use Rattle.chart.specs.Chart.{Chart, Read, accepted, refused, readChart, chartRules, blockCount}
+use Rattle.chart.specs.Chart.{Chart, Read, accepted, refused, readChart, chartCases, blockCount}
 use Rattle.chart.specs.declared.readings.Verdict.the-variants.{Refused as ReaderRefused}
 use Rattle.chart.specs.Reading.{readingOf, reading, verdictSays}
 use Rattle.cache.specs.Ages.{Ages}
@@ -23,21 +24,21 @@ use Rattle.ages.specs.Charted.{planOf, agesFlow}
 use Rattle.tables.specs.Lent.{Lent, tableShort}
 use Rattle.analysis.specs.declared.Analysed.the-variants.{Refused as AnalysisRefused}
 use Rattle.analysis.specs.Analysis.{Buffers, buffersShort, refuse, finish, analyseRead, analysed, AnalysedSaid, analysedSays}
-use Rattle.checker.specs.declared.Checked.the-variants.{Passes, Fails}
+use Rattle.checker.specs.declared.Checked.the-variants.{Yes, No}
 use Rattle.checker.specs.declared.Checked.the-variants.{Refused as CheckerRefused}
-use Rattle.checker.specs.Checker.{passes, checkedBy, checkRead, checked, checkedSays}
+use Rattle.checker.specs.Checker.{passing, checkedBy, checkRead, checked, checkedSays}
 use Rattle.demands.proofs.Refusals.{reading-refusals}
 
 -- ---- the refusals that some rules give
 
 -- What is said of a refusal by rules whose numbers go up to this.
-said-most : (most : ℕ) (rules : List (Rule Refusal)) (refusal : Refusal) → everyAnswer (λ r. leb (numberOf r) most) rules ≡ true → FirstApplies rules refusal
+said-most : (most : ℕ) (cases : List (Case Refusal)) (refusal : Refusal) → everyAnswer (λ r. leb (numberOf r) most) cases ≡ true → FirstApplies cases refusal
     → numberOf refusal ≤ most
-said-most most rules refusal e f =
-    leb-true (numberOf refusal) most (answer-passes (λ r. leb (numberOf r) most) rules refusal e f)
+said-most most cases refusal e f =
+    leb-true (numberOf refusal) most (answer-passes (λ r. leb (numberOf r) most) cases refusal e f)
 
 read-most : (bytes : List ℕ) (refusal : Refusal) → readChart bytes ≡ refused refusal → numberOf refusal ≤ 10
-read-most bytes refusal e = said-most 10 (chartRules bytes) refusal refl (reading-refusals .only bytes refusal e)
+read-most bytes refusal e = said-most 10 (chartCases bytes) refusal refl (reading-refusals .only bytes refusal e)
 
 pub header-numbers : (bytes : List ℕ) → headerSays (headerRead bytes) .number ≤ 8
 unfolding headerRead
@@ -46,8 +47,8 @@ header-numbers bytes = go (headerRead bytes) refl
     go : (r : HeaderRead) → headerRead bytes ≡ r → headerSays r .number ≤ 8
     go (Accepted header) e = omega arith
     go (Refused refusal) e =
-        said-most 8 (bytesRules bytes) refusal refl
-        (applies-first Refused (bytesRules bytes) (Accepted (headerIn bytes)) refusal (λ a b q. cc) (λ q. let z : _≡_ {A = ℕ} 0 1 = cc in omega arith) e)
+        said-most 8 (bytesCases bytes) refusal refl
+        (applies-first Refused (bytesCases bytes) (Accepted (headerIn bytes)) refusal (λ a b q. cc) (λ q. let z : _≡_ {A = ℕ} 0 1 = cc in omega arith) e)
 
 pub reading-numbers : (bytes : List ℕ) → verdictSays (reading bytes .verdict) .number ≤ 10
 unfolding readingOf
@@ -61,13 +62,13 @@ pub checker-numbers : (bytes : List ℕ) (table : Lent) → checkedSays (checked
 unfolding checked checkedBy
 checker-numbers bytes table = go (readChart bytes) refl
   where
-    answer : (short passing : Bool) → checkedSays (cond short (CheckerRefused ShortBuffer) (cond passing Passes Fails)) .number ≤ 11
-    answer true passing = omega arith
+    answer : (short pass : Bool) → checkedSays (cond short (CheckerRefused ShortBuffer) (cond pass Yes No)) .number ≤ 11
+    answer true pass = omega arith
     answer false true = omega arith
     answer false false = omega arith
 
     go : (r : Read) → readChart bytes ≡ r → checkedSays (checkRead table r) .number ≤ 11
-    go (accepted chart) e = answer (tableShort (planOf chart) table) (passes (planOf chart) table)
+    go (accepted chart) e = answer (tableShort (planOf chart) table) (passing (planOf chart) table)
     go (refused refusal) e = omega (arith, read-most bytes refusal e)
 
 pub analysis-numbers : (bytes : List ℕ) (allowance : ℕ) (lent : Buffers) → analysedSays (analysed bytes allowance lent .answer) .number ≤ 12

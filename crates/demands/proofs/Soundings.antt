@@ -1,5 +1,5 @@
--- The definitions give what document 01 says: its starred soundings under one claim; the sample whole; a damaged chart's refusals; and
--- what each of the spreadsheet's mistakes would read instead.
+-- The definitions give the numbers that are asked for: the starred soundings under one claim; the loop's report whole; a damaged chart's refusals;
+-- and what each of five mistakes would read instead.
 use Prim.Native.Nat.{ℕ, zero, suc, _≤_, _<_}
 use mathlib.Core.List.{_∷_}
 use lib.ListN.{getD, length}
@@ -16,114 +16,119 @@ use Rattle.blocks.specs.Blocks.{gathered, overfull, placeIn}
 use Rattle.chart.specs.Reading.{readingOf}
 use Rattle.chart.proofs.Sounded.{chart-sounded}
 use Rattle.chart.specs.Chart.{touches, firstBroken, firstOverfull, readChart}
-use Rattle.cache.specs.Plain.{has, without, touchSet, hits, touch, Different, AllOf}
+use Rattle.cache.specs.Plain.{has, without, touchSet, ageIn, hits, touch, Different, AllOf}
 use Rattle.cache.specs.Ages.{mustGrown, mayGrown, mustAfter, mayAfter, sameAges, touchAges, meetAges, startAges}
 use Rattle.flow.specs.Walk.{visitsOf}
-use Rattle.flow.specs.Pass.{met, changes, metAt, put, putAll, visitWith, visit, visits, pass, before, afterPasses, settleFrom, settle}
+use Rattle.flow.specs.Pass.{met, changes, metAt, put, putAll, takeWith, takeNode, takeNodes, pass, before, afterPasses, settleFrom, settle}
 use Rattle.flow.proofs.Reaching.{onward-more}
 use Rattle.flow.proofs.Paying.{paid-scales}
 use Rattle.classes.specs.Class.{classBy}
 use Rattle.analysis.specs.Analysis.{finish, analysed}
-use Rattle.checker.specs.Checker.{passes, checkedBy, checked}
+use Rattle.checker.specs.Checker.{passing, checkedBy, checked}
 use Rattle.totals.specs.Totals.{totals}
 use Rattle.costs.specs.Costs.{totalBy}
 use Rattle.report.specs.Report.{report}
 use Rattle.report.specs.Ending.{refuses}
 use Rattle.report.proofs.Refusing.{refusal-told}
 use Rattle.machine.specs.Machine.{keyOf, plainMachine}
-use Rattle.demands.specs.Soundings.{starred, loopPrices, tenTurns}
+use Rattle.demands.specs.Soundings.{starred, loopFigures, tenTurns}
 use Rattle.demands.specs.Refused.{damaged, unanalysed}
 use Rattle.demands.specs.Tabled.{unchecked, looser, untotalled, summed}
 use Rattle.demands.specs.Corners.{corners, unknownStart, strangers}
 use Rattle.demands.specs.Shared.{sharedSoundings, shapeSoundings}
 use Rattle.demands.specs.Edges.{leftBehind, edges, elevenSteps, elevenReport}
 use Rattle.demands.specs.Mistakes.{right, mistaken}
+use Rattle.demands.specs.Examples.{examples}
 use Rattle.demands.specs.Charts.{loopChart}
 use Rattle.demands.specs.Sounded.{Sounded}
 
 -- All that has to be seen through for a definition to compute.
-everything : Unit {0}
-unfolding readingOf wordAt blockOf setOf shapeAllowed recordKeeps recordOf arrowsOf touchesOf gathered overfull placeIn firstBroken firstOverfull readChart has without touchSet hits touch mustGrown mayGrown mustAfter mayAfter sameAges touchAges meetAges startAges met changes metAt put putAll visitWith visit visits pass before afterPasses settleFrom settle classBy finish analysed passes checkedBy checked totalBy totals report refuses
-everything = tt
+all-unfolded : Unit {0}
+unfolding readingOf wordAt blockOf setOf shapeAllowed recordKeeps recordOf arrowsOf touchesOf gathered overfull placeIn firstBroken firstOverfull readChart has without touchSet ageIn hits touch mustGrown mayGrown mustAfter mayAfter sameAges touchAges meetAges startAges met changes metAt put putAll takeWith takeNode takeNodes pass before afterPasses settleFrom settle classBy finish analysed passing checkedBy checked totalBy totals report refuses
+all-unfolded = tt
 
 pub loop-nodes : headerIn loopChart .nodes ≡ 3
-unfolding everything
+unfolding all-unfolded
 loop-nodes = refl
 
-no-less : (n : ℕ) → n < 3 → getD (loopPrices .floors) n 0 ≤ visitsOf n (0 ∷ tenTurns)
+no-less : (n : ℕ) → n < 3 → getD (loopFigures .floors) n 0 ≤ visitsOf n (0 ∷ tenTurns)
 no-less zero h = omega arith
 no-less (suc zero) h = omega arith
 no-less (suc (suc zero)) h = omega arith
 no-less (suc (suc (suc n))) h = absurd (omega arith)
 
-no-more : (n : ℕ) → n < 3 → visitsOf n (0 ∷ tenTurns) ≤ getD (loopPrices .ceilings) n 0
+no-more : (n : ℕ) → n < 3 → visitsOf n (0 ∷ tenTurns) ≤ getD (loopFigures .ceilings) n 0
 no-more zero h = omega arith
 no-more (suc zero) h = omega arith
 no-more (suc (suc zero)) h = omega arith
 no-more (suc (suc (suc n))) h = absurd (omega arith)
 
 starred-hold : Hold starred
-unfolding everything
+unfolding all-unfolded
 starred-hold = refl
 
 damaged-hold : Hold damaged
-unfolding everything
+unfolding all-unfolded
 damaged-hold = refl
 
 unanalysed-hold : Hold unanalysed
-unfolding everything
+unfolding all-unfolded
 unanalysed-hold = refl
 
 unchecked-hold : Hold unchecked
-unfolding everything
+unfolding all-unfolded
 unchecked-hold = refl
 
 untotalled-hold : Hold untotalled
-unfolding everything
+unfolding all-unfolded
 untotalled-hold = refl
 
 right-hold : Hold right
-unfolding everything
+unfolding all-unfolded
 right-hold = refl
 
+examples-hold : Hold examples
+unfolding all-unfolded
+examples-hold = refl
+
 mistaken-hold : Hold mistaken
-unfolding everything
+unfolding all-unfolded
 mistaken-hold = refl
 
 looser-hold : Hold looser
-unfolding everything
+unfolding all-unfolded
 looser-hold = refl
 
 summed-hold : Hold summed
-unfolding everything
+unfolding all-unfolded
 summed-hold = refl
 
 shared-hold : Hold sharedSoundings
-unfolding everything
+unfolding all-unfolded
 shared-hold = refl
 
 left-behind-hold : Hold leftBehind
-unfolding everything
+unfolding all-unfolded
 left-behind-hold = refl
 
 edges-hold : Hold edges
-unfolding everything
+unfolding all-unfolded
 edges-hold = refl
 
 eleven-report : report elevenSteps ≡ elevenReport
-unfolding everything
+unfolding all-unfolded
 eleven-report = refl
 
 shapes-hold : Hold shapeSoundings
-unfolding everything
+unfolding all-unfolded
 shapes-hold = refl
 
 corners-hold : Hold corners
-unfolding everything
+unfolding all-unfolded
 corners-hold = refl
 
 strangers-formed : plainMachine unknownStart .Begins strangers
-unfolding everything
+unfolding all-unfolded
 strangers-formed = record { short = short; different = different; own = own }
   where
     short : (set : ℕ) → length (strangers set) ≤ 2
@@ -139,7 +144,7 @@ strangers-formed = record { short = short; different = different; own = own }
     own (suc set) = tt
 
 pub sounded : Sounded
-unfolding everything
+unfolding all-unfolded
 sounded =
     record {
       starred-hold = starred-hold;
@@ -182,5 +187,6 @@ sounded =
       corners-hold = corners-hold;
       right-hold = right-hold;
       mistaken-hold = mistaken-hold;
+      examples-hold = examples-hold;
       how-many = refl;
     }

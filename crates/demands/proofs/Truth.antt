@@ -1,5 +1,5 @@
 -- What a passing table says is true of the plain machine at each node of a walk.
-use Prim.Native.Nat.{ℕ, _≤_, _<_}
+use Prim.Native.Nat.{ℕ, _<_}
 use mathlib.Core.Bool.{Bool, true, false}
 use mathlib.Core.List.{List, [], _∷_}
 use mathlib.Core.Logic.{⊎-elim}
@@ -14,74 +14,57 @@ use Rattle.cache.specs.Ages.{Ages, ageOf}
 use Rattle.flow.specs.Flow.{Cell, blank, holds, cellAt}
 use Rattle.flow.specs.Passing.{Marked, Passing}
 use Rattle.flow.specs.Walk.{Walk, AtTouches}
-use Rattle.flow.proofs.Walking.{at-touches, SaysOf, SaysAt, walk-true, walk-begins, at-nodes}
+use Rattle.flow.specs.Truths.{SaysOf, SaysAt}
+use Rattle.flow.proofs.Walking.{at-touches, walk-true, walk-begins, at-nodes}
 use Rattle.ages.specs.declared.ColumnTouch.{ColumnTouch}
-use Rattle.ages.specs.Plan.{columnsOf, touchesIn, touched}
+use Rattle.ages.specs.Plan.{columnsOf, touchesIn, afterTouch}
 use Rattle.ages.specs.Charted.{columnTouch, planOf, agesFlow, touchedBy}
 use Rattle.ages.proofs.Charting.{touches-planned, onward-planned}
 use Rattle.classes.specs.Class.{classOf, nodeClass, CalledRight, unreached, none, classesBy, classesOf}
 use Rattle.classes.proofs.Calling.{class-cases, classes-mapped}
 use Rattle.machine.specs.Machine.{plainMachine, Contents, AgesTrue}
-use Rattle.machine.proofs.Truth.{touch-true, touch-called, truthful, start-true}
-use Rattle.costs.specs.Costs.{Prices, classesAt}
-use Rattle.costs.proofs.Spending.{RightAt, ToldAt}
+use Rattle.machine.proofs.Truth.{touch-true, touch-called, plan-truthful, start-true}
+use Rattle.costs.specs.Costs.{classesAt}
 use Rattle.tables.specs.Lent.{Lent, agesAt, tableOf}
 use Rattle.tables.proofs.Laid.{tableOf-at}
 use Rattle.demands.specs.Demand3.{SaysTrue, TouchRight, AtEachNode}
-
--- The class of a touch of a block.
-abbrev pub touchClass : Chart → Touch → Ages → ℕ
-touchClass chart touch a = classOf (planOf chart) (columnTouch chart touch) a
-
--- A table's node is right where the machine arrives with these contents; and its classes are all hits and misses.
-abbrev pub RightHere : (chart : Chart) → Lent → (prices : Prices) → prices .hitCost ≤ prices .missCost → ℕ → Contents chart → Type 0
-RightHere chart table prices fair =
-    RightAt (plainMachine chart) (touchClass chart) (touchedBy chart) (touches chart) (chart .header .nodes) (classesAt (planOf chart)) (tableOf (planOf chart) table) prices fair
-
-abbrev pub ToldHere : (chart : Chart) → Lent → (prices : Prices) → prices .hitCost ≤ prices .missCost → ℕ → Contents chart → Type 0
-ToldHere chart table prices fair =
-    ToldAt (plainMachine chart) (touchClass chart) (touchedBy chart) (touches chart) (chart .header .nodes) (classesAt (planOf chart)) (tableOf (planOf chart) table) prices fair
+use Rattle.demands.specs.Inner.{touchClass, RightHere, Arrives}
 
 -- The classes of a node are those of its touches of blocks.
 pub classes-charted : (chart : Chart) (n : ℕ) → n < chart .header .nodes → (a : Ages) → classesAt (planOf chart) n a ≡ classesBy (touchClass chart) (touchedBy chart) (touches chart n) a
 classes-charted chart n h a =
     ap (λ (ts : List ColumnTouch). classesOf (planOf chart) ts a) (touches-planned chart n h)
-    ∙ classes-mapped (columnTouch chart) (classOf (planOf chart)) (touched (planOf chart)) (touches chart n) a
+    ∙ classes-mapped (columnTouch chart) (classOf (planOf chart)) (afterTouch (planOf chart)) (touches chart n) a
 
 module _ (bytes : List ℕ) (chart : Chart) (read : readChart bytes ≡ accepted chart) (table : Lent) (passing : Passing (agesFlow chart) (tableOf (planOf chart) table)) where
   -- What the table says at a node is true: the node is marked, and its row bounds the ages there.
   abbrev Says : ℕ → Contents chart → Type 0
   Says n contents =
-      SaysAt (agesFlow chart) (plainMachine chart) (touches chart) (touchedBy chart) (AgesTrue chart) (truthful bytes chart read) (tableOf (planOf chart) table) n contents
-
-  pub record Arrives (n : ℕ) (contents : Contents chart) : Type 0 where
-    pub inside : n < chart .header .nodes
-    pub marked : cellAt (tableOf (planOf chart) table) n ≡ holds (agesAt (planOf chart) table n)
-    pub bounds : AgesTrue chart (agesAt (planOf chart) table n) contents
+      SaysAt (agesFlow chart) (plainMachine chart) (AgesTrue chart) (tableOf (planOf chart) table) n contents
 
   abbrev SaysCell : Contents chart → Cell Ages → Type 0
-  SaysCell contents cell = SaysOf (agesFlow chart) (plainMachine chart) (touches chart) (touchedBy chart) (AgesTrue chart) cell contents
+  SaysCell contents cell = SaysOf (agesFlow chart) (plainMachine chart) (AgesTrue chart) cell contents
 
-  arrives : (n : ℕ) (contents : Contents chart) → Says n contents → Arrives n contents
+  arrives : (n : ℕ) (contents : Contents chart) → Says n contents → Arrives chart table n contents
   arrives n contents says = go (eqb (getD (table .marks) n 0) 0) refl
     where
-      go : (t : Bool) → eqb (getD (table .marks) n 0) 0 ≡ t → Arrives n contents
+      go : (t : Bool) → eqb (getD (table .marks) n 0) 0 ≡ t → Arrives chart table n contents
       go true e =
           let cell : cellAt (tableOf (planOf chart) table) n ≡ blank = tableOf-at (planOf chart) table n (says .inside) ∙ (rw e) in
-          absurd (subst (SaysCell contents) cell (says .says))
+          absurd (subst (SaysCell contents) cell (says .cell-says))
       go false e =
           let cell : cellAt (tableOf (planOf chart) table) n ≡ holds (agesAt (planOf chart) table n) = tableOf-at (planOf chart) table n (says .inside) ∙ (rw e) in
-          record { inside = says .inside; marked = cell; bounds = subst (SaysCell contents) cell (says .says) }
+          record { inside = says .inside; marked = cell; bounds = subst (SaysCell contents) cell (says .cell-says) }
 
-  pub walk-arrives : (ts : List ℕ) (contents : Contents chart) → plainMachine chart .Begins contents → Walk (arrows chart) (chart .header .entry) ts → AtEachNode chart Arrives ts contents
+  pub walk-arrives : (ts : List ℕ) (contents : Contents chart) → plainMachine chart .Begins contents → Walk (arrows chart) (chart .header .entry) ts → AtEachNode chart (Arrives chart table) ts contents
   walk-arrives ts contents begins walk =
       let entry-in = accepted-entry bytes chart read in
-      at-nodes (plainMachine chart) (touches chart) Says Arrives arrives (chart .header .entry) ts contents
-      (walk-true (agesFlow chart) (plainMachine chart) (touches chart) (touchedBy chart) (AgesTrue chart) (truthful bytes chart read) (tableOf (planOf chart) table) passing (chart .header .entry) ts contents
-      (walk-begins (agesFlow chart) (plainMachine chart) (touches chart) (touchedBy chart) (AgesTrue chart) (truthful bytes chart read) (tableOf (planOf chart) table) passing entry-in contents (start-true bytes chart read contents begins))
+      at-nodes (plainMachine chart) (touches chart) Says (Arrives chart table) arrives (chart .header .entry) ts contents
+      (walk-true (agesFlow chart) (plainMachine chart) (touches chart) (touchedBy chart) (AgesTrue chart) (plan-truthful bytes chart read) (tableOf (planOf chart) table) passing (chart .header .entry) ts contents
+      (walk-begins (agesFlow chart) (plainMachine chart) (touches chart) (touchedBy chart) (AgesTrue chart) (plan-truthful bytes chart read) (tableOf (planOf chart) table) passing entry-in contents (start-true bytes chart read contents begins))
       (onward-planned bytes chart read (chart .header .entry) entry-in ts walk))
 
-  module _ (n : ℕ) (contents : Contents chart) (arrived : Arrives n contents) where
+  module _ (n : ℕ) (contents : Contents chart) (arrived : Arrives chart table n contents) where
     pub touches-called : AtTouches (touchedBy chart) (plainMachine chart .act) (TouchRight chart) (touches chart n) (agesAt (planOf chart) table n) contents
     touches-called =
         at-touches (touchedBy chart) (plainMachine chart .act) (AgesTrue chart) (TouchRight chart) (touches chart n)
@@ -126,8 +109,8 @@ module _ (bytes : List ℕ) (chart : Chart) (read : readChart bytes ≡ accepted
             ⊎-elim (λ h. omega arith) (λ later. ⊎-elim (λ h. omega arith) (λ h. omega arith) later)
             (class-cases (columnsOf (planOf chart) .mustLimit (columnTouch chart touch .column)) (ageOf (agesAt (planOf chart) table n .must) (columnTouch chart touch .column)) (ageOf (agesAt (planOf chart) table n .may) (columnTouch chart touch .column)))
 
-    abbrev pub arrived-right : (prices : Prices) (fair : prices .hitCost ≤ prices .missCost) → RightHere chart table prices fair n contents
-    arrived-right prices fair =
+    abbrev pub arrived-right : RightHere chart table n contents
+    arrived-right =
         record {
           inside = arrived .inside;
           state = agesAt (planOf chart) table n;

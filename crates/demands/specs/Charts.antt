@@ -1,10 +1,11 @@
--- The charts of document 01's soundings, byte by byte. A read of an address a that is a multiple of 4 and below 0x400 begins 40 00 00 a/4.
+-- The charts of the soundings, byte by byte. Nothing here is a rule of the tool: rules 1.2 and 2.1 say how the bytes are read. A read of an address a
+-- that is a multiple of 4 and below 0x400 begins 40 00 00 a/4.
 use Prim.Native.Nat.{ℕ, suc}
 use mathlib.Core.List.{List, [], _∷_, _++_}
 
--- ---- headers of three nodes with entry 0 and 16-byte lines
+-- ---- headers of three nodes with entry 0 and lines of 16 bytes
 
--- One set, two ways, empty; the same, unknown; one set, one way, unknown; two sets, one way, unknown.
+-- Two ways in one set, empty, and the same unknown; one way in one set, and one in each of two, both unknown.
 abbrev pub oneSetTwoWaysEmpty : List ℕ
 oneSetTwoWaysEmpty = 0x01 ∷ 0x40 ∷ 0x24 ∷ 0x00 ∷ 0x00 ∷ 0x30 ∷ 0x00 ∷ 0x00 ∷ []
 
@@ -26,7 +27,7 @@ fourSetsOneWay = 0x01 ∷ 0x42 ∷ 0x10 ∷ 0x00 ∷ 0x00 ∷ 0x30 ∷ 0x00 ∷ 
 
 -- ---- charts
 
--- "A chart and its report, whole": step 0 to node 1; node 1 reads 0 and leads to 1 and 2; node 2 reads 0.
+-- The loop of docs/RULES.md: node 0 is a bare step; node 1 reads block 0 and goes to itself or on; node 2 reads it once more.
 abbrev pub loopChart : List ℕ
 loopChart =
     oneSetTwoWaysEmpty
@@ -35,7 +36,7 @@ loopChart =
     ∷ 0x40 ∷ 0x00 ∷ 0x00 ∷ 0x00 ∷ 0x00 ∷ 0x00 ∷ 0x00 ∷ 0x00
     ∷ []
 
--- Its report, a line here for each of its lines: nodes 3 blocks 1 passes 2, 0 none, 1 unsure, 2 hit.
+-- Its report, a line here for each of its lines: three nodes, one block, two passes; the first node none, the next unsure, the last a hit.
 abbrev pub loopReport : List ℕ
 loopReport =
     110 ∷ 111 ∷ 100 ∷ 101 ∷ 115 ∷ 32 ∷ 51 ∷ 32 ∷ 98 ∷ 108 ∷ 111 ∷ 99 ∷ 107 ∷ 115 ∷ 32 ∷ 49 ∷ 32 ∷ 112 ∷ 97 ∷ 115 ∷ 115 ∷ 101 ∷ 115 ∷ 32 ∷ 50 ∷ 10
@@ -44,8 +45,8 @@ loopReport =
     ∷ 50 ∷ 32 ∷ 104 ∷ 105 ∷ 116 ∷ 10
     ∷ []
 
--- Nodes of one kind (0x00 for bare steps, 0x40 for reads, 0x80 for writes), "an arrow from each to the next and none from the last", which
--- touch four times these addresses; `next` is the number of the second of them.
+-- Nodes of one kind (0x00 for bare steps, 0x40 for reads, 0x80 for writes) that lead each to the next and touch four times these addresses;
+-- `next` is the number of the second of them.
 abbrev pub chain : ℕ → ℕ → List ℕ → List ℕ
 chain kind next [] = []
 chain kind next (a ∷ []) = kind ∷ 0x00 ∷ 0x00 ∷ a ∷ 0x00 ∷ 0x00 ∷ 0x00 ∷ 0x00 ∷ []
@@ -56,10 +57,11 @@ chain kind next (a ∷ b ∷ l) =
 abbrev pub straightOf : ℕ → List ℕ → ℕ → ℕ → List ℕ
 straightOf kind header ends middle = header ++ chain kind 1 (ends ∷ middle ∷ ends ∷ [])
 
--- "Straight charts of three reads": 0x00, then 4 times `middle`, then 0x00.
+-- Three reads in a row: of 0x00, of 4 times `middle`, and of 0x00 again.
 abbrev pub straightChart : List ℕ → ℕ → List ℕ
 straightChart header middle = straightOf 0x40 header 0x00 middle
 
+-- The same of writes.
 abbrev pub straightWrites : List ℕ → ℕ → List ℕ
 straightWrites header middle = straightOf 0x80 header 0x00 middle
 

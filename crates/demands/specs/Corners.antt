@@ -1,5 +1,6 @@
--- Corners that document 01's soundings leave out: several sets of several ways and the two fields swapped, long and short lines, each class,
+-- Corners that the starred soundings leave out: several sets of several ways and the two fields swapped, long and short lines, each class,
 -- blocks of two sets, another entry, a write, the words and numbers of a report, and a start with a block that the chart does not have.
+-- Nothing here is a rule of the tool: it is what rules 1.2, 2.2, 3.1, 3.2, 4.7, 8.1, 11.10 and 14.2 to 14.4 come to.
 use Prim.Native.Nat.{ℕ, zero, suc}
 use mathlib.Core.List.{List, [], _∷_, map}
 use lib.ListN.{set}

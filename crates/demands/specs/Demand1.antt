@@ -1,7 +1,7 @@
 -- Demand 1, as those who ordered the tool put it: "Any bytes and any buffer lengths get an answer or a numbered refusal. What a refusal
 -- returns and leaves behind, and when each is given, is written down."
--- The definitions answer for every input whatever; this is what they say of each refusal of the reader, of the header alone, of the
--- analysis, of the checker and of the totals. Proved as `demand1` in proofs/Demand1.antt.
+-- The definitions answer for every input whatever; this is what they say of each refusal of the reader, of the header alone, of the analysis, of the
+-- checker and of the totals: rules 3.4, 11.0 to 11.17, 12.1, 12.3 and 12.5 to 12.8. Proved as `demand1` in proofs/Demand1.antt.
 use Prim.Native.Nat.{ℕ, _≤_, _<_}
 use mathlib.Core.Path.{_≡_}
 use mathlib.Core.Bool.{true, false}
@@ -9,7 +9,7 @@ use mathlib.Core.List.{List, [], _∷_}
 use mathlib.Core.Logic.{_⊎_}
 use lib.ListN.{length, replicate, getD}
 use Rattle.lists.specs.Lists.{padded}
-use Rattle.lists.specs.Choice.{FirstApplies, Rule, _⇒_}
+use Rattle.lists.specs.Choice.{FirstApplies, Case, _⇒_}
 use Rattle.refusals.specs.declared.Refusal.{Refusal}
 use Rattle.refusals.specs.declared.Refusal.the-variants.{ShortBuffer, NotPassing}
 use Rattle.chart.specs.declared.headers.HeaderRead.the-variants.{Refused as HeaderRefused}
@@ -19,25 +19,25 @@ use Rattle.blocks.specs.Exactly.{Exactly}
 use Rattle.chart.specs.Bytes.{AreBytes}
 use Rattle.chart.specs.Refusing.{Applies, blocksSaid, blocksBefore}
 use Rattle.chart.specs.Saying.{Says}
-use Rattle.chart.specs.Header.{bytesRules, headerRead, readHeaderSays}
+use Rattle.chart.specs.Header.{bytesCases, headerRead, readHeaderSays}
 use Rattle.chart.specs.Reading.{reading, readSays}
-use Rattle.chart.specs.Chart.{Chart, accepted, refused, readChart, chartRules, blockCount}
+use Rattle.chart.specs.Chart.{Chart, accepted, refused, readChart, chartCases, blockCount}
 use Rattle.refusals.specs.Refusals.{numberOf, placeOf}
 use Rattle.flow.specs.Pass.{pass, afterPasses}
 use Rattle.ages.specs.Charted.{planOf, agesFlow}
-use Rattle.costs.specs.Costs.{Prices, lowTotal, highTotal}
+use Rattle.costs.specs.Costs.{Figures, lowTotal, highTotal}
 use Rattle.tables.specs.Lent.{Lent, tableOf, tableShort, SameUsed, TablePasses}
 use Rattle.analysis.specs.Analysis.{Buffers, buffersShort, filledByZeros, analysed, analyseSays}
 use Rattle.analysis.specs.declared.Analysed.the-variants.{Settled, Unsettled}
 use Rattle.analysis.specs.declared.Analysed.the-variants.{Refused as AnalysisRefused}
-use Rattle.checker.specs.declared.Checked.the-variants.{Passes, Fails}
+use Rattle.checker.specs.declared.Checked.the-variants.{Yes, No}
 use Rattle.checker.specs.declared.Checked.the-variants.{Refused as CheckerRefused}
 use Rattle.checker.specs.Checker.{checked, checkSays}
 use Rattle.totals.specs.declared.Totals.the-variants.{Between}
 use Rattle.totals.specs.declared.Totals.the-variants.{Refused as TotalsRefused}
-use Rattle.totals.specs.Totals.{totalRules, totals, totalSays}
+use Rattle.totals.specs.Totals.{totalCases, totals, totalSays}
 
--- Each of so many passes changes something.
+-- Rule 11.12: each of so many passes changes something.
 abbrev pub AllChange : Chart → ℕ → Type 0
 AllChange chart allowance = (k : ℕ) → k < allowance → pass (agesFlow chart) (afterPasses (agesFlow chart) k) .changed ≡ true
 
@@ -49,24 +49,24 @@ pub record SameLengths (lent left : Buffers) : Type 0 where
   pub marks : length (left .marks) ≡ length (lent .marks)
   pub classes : length (left .classes) ≡ length (lent .classes)
 
--- The numbers of some rules, in their order: "Checked in this order".
-abbrev pub numbersOf : List (Rule Refusal) → List ℕ
+-- Rule 11.0: the numbers of some refusals, in the order in which they are tried.
+abbrev pub numbersOf : List (Case Refusal) → List ℕ
 numbersOf [] = []
-numbersOf ((test ⇒ refusal) ∷ rules) = numberOf refusal ∷ numbersOf rules
+numbersOf ((test ⇒ refusal) ∷ cases) = numberOf refusal ∷ numbersOf cases
 
--- No refusal of a smaller number applies.
+-- Rule 11.0: no refusal of a smaller number applies.
 abbrev pub NoneBefore : List ℕ → Refusal → Type 0
 NoneBefore bytes refusal = (other : Refusal) → numberOf other < numberOf refusal → Applies bytes other → ⊥
 
--- Refusals 1 to 10: when they are given, that reader, analysis, checker and totals all give them and the header alone gives 1 to 8, and
--- what they leave behind.
+-- Rules 11.0 to 11.10 and 12.1: when refusals 1 to 10 are given, that reader, analysis, checker and totals all give them and the header alone
+-- gives 1 to 8, and what they leave behind.
 pub record ReadingRefusals : Type 0 where
-  pub order : (bytes : List ℕ) → numbersOf (chartRules bytes) ≡ 1 ∷ 2 ∷ 3 ∷ 4 ∷ 5 ∷ 6 ∷ 7 ∷ 8 ∷ 9 ∷ 10 ∷ []
-  pub given : (bytes : List ℕ) (refusal : Refusal) → FirstApplies (chartRules bytes) refusal → readChart bytes ≡ refused refusal
-  pub only : (bytes : List ℕ) (refusal : Refusal) → readChart bytes ≡ refused refusal → FirstApplies (chartRules bytes) refusal
+  pub order : (bytes : List ℕ) → numbersOf (chartCases bytes) ≡ 1 ∷ 2 ∷ 3 ∷ 4 ∷ 5 ∷ 6 ∷ 7 ∷ 8 ∷ 9 ∷ 10 ∷ []
+  pub given : (bytes : List ℕ) (refusal : Refusal) → FirstApplies (chartCases bytes) refusal → readChart bytes ≡ refused refusal
+  pub only : (bytes : List ℕ) (refusal : Refusal) → readChart bytes ≡ refused refusal → FirstApplies (chartCases bytes) refusal
   -- reading the header alone gives 1 to 8, exactly by their rules, as reading the whole does
-  pub header-given : (bytes : List ℕ) (refusal : Refusal) → FirstApplies (bytesRules bytes) refusal → headerRead bytes ≡ HeaderRefused refusal
-  pub header-only : (bytes : List ℕ) (refusal : Refusal) → headerRead bytes ≡ HeaderRefused refusal → FirstApplies (bytesRules bytes) refusal
+  pub header-given : (bytes : List ℕ) (refusal : Refusal) → FirstApplies (bytesCases bytes) refusal → headerRead bytes ≡ HeaderRefused refusal
+  pub header-only : (bytes : List ℕ) (refusal : Refusal) → headerRead bytes ≡ HeaderRefused refusal → FirstApplies (bytesCases bytes) refusal
   pub from-header : (bytes : List ℕ) (refusal : Refusal) → headerRead bytes ≡ HeaderRefused refusal → readChart bytes ≡ refused refusal
   pub to-reader : (bytes : List ℕ) (refusal : Refusal) → readChart bytes ≡ refused refusal → reading bytes ≡ record { verdict = ReaderRefused refusal; blocks = replicate mostBlocks 0 }
   pub to-reader-accepted : (bytes : List ℕ) (chart : Chart)
@@ -78,10 +78,10 @@ pub record ReadingRefusals : Type 0 where
   pub to-checker : (bytes : List ℕ) (refusal : Refusal) (table : Lent)
       → readChart bytes ≡ refused refusal
       → checked bytes table ≡ CheckerRefused refusal
-  pub to-totals : (bytes : List ℕ) (refusal : Refusal) (table : Lent) (prices : Prices)
+  pub to-totals : (bytes : List ℕ) (refusal : Refusal) (table : Lent) (figures : Figures)
       → readChart bytes ≡ refused refusal
-      → totals bytes table prices ≡ TotalsRefused refusal
-  -- the same of bytes, row by row, as statements: a refusal is given exactly if its row applies and none of a smaller number does
+      → totals bytes table figures ≡ TotalsRefused refusal
+  -- the same of bytes, rule by rule, as statements: a refusal is given exactly if its rule applies and none of a smaller number does
   pub row-given : (bytes : List ℕ) (refusal : Refusal)
       → AreBytes bytes
       → Applies bytes refusal
@@ -91,19 +91,20 @@ pub record ReadingRefusals : Type 0 where
       → AreBytes bytes
       → readChart bytes ≡ refused refusal
       → Applies bytes refusal × NoneBefore bytes refusal
-  -- bytes to which no row applies, and only those, are a chart: the one that they say, node by node, with exactly the blocks that are touched
+  -- bytes to which no such rule applies, and only those, are a chart: the one that they say, node by node, with exactly the blocks that are touched
   pub none-accepted : (bytes : List ℕ)
       → AreBytes bytes
       → ((refusal : Refusal) → Applies bytes refusal → ⊥)
       → (chart : Chart) × (readChart bytes ≡ accepted chart)
   pub accepted-none : (bytes : List ℕ) (chart : Chart) (refusal : Refusal) → AreBytes bytes → readChart bytes ≡ accepted chart → Applies bytes refusal → ⊥
   pub accepted-says : (bytes : List ℕ) (chart : Chart) → AreBytes bytes → readChart bytes ≡ accepted chart → Says bytes chart
-  -- the blocks that row 10 counts are those that the nodes before touch
+  -- the blocks that rule 11.10 counts are those that the nodes before touch
   pub counted-blocks : (bytes : List ℕ) (n : ℕ) → Exactly (blocksSaid bytes) n (blocksBefore bytes n)
-  -- "There may be 0 to 64 of them."
+  -- rule 3.4: 64 blocks are the most
   pub few-blocks : (bytes : List ℕ) (chart : Chart) → readChart bytes ≡ accepted chart → blockCount chart ≤ mostBlocks
 
--- The analysis of an accepted chart: 11 if a buffer is short; else 12 if every pass that is allowed changes something; else it settles.
+-- Rules 11.11, 11.12 and 12.3, of the analysis of an accepted chart: 11 if a buffer is short; else 12 if every pass that is allowed changes
+-- something; else it settles.
 pub record AnalysisRefusals (bytes : List ℕ) (chart : Chart) (allowance : ℕ) (lent : Buffers) : Type 0 where
   pub short : buffersShort (planOf chart) lent ≡ true → analysed bytes allowance lent ≡ record { answer = AnalysisRefused ShortBuffer; buffers = lent }
   pub unsettled : buffersShort (planOf chart) lent ≡ false
@@ -113,35 +114,35 @@ pub record AnalysisRefusals (bytes : List ℕ) (chart : Chart) (allowance : ℕ)
       → (AllChange chart allowance → ⊥)
       → (passes : ℕ) × (analysed bytes allowance lent .answer ≡ Settled passes (blockCount chart))
 
--- The checker of an accepted chart's table: 11 if it is short, else yes or no.
+-- Rules 11.11 and 12.5, of the checker of an accepted chart's table: 11 if it is short, else yes or no.
 pub record CheckerRefusals (bytes : List ℕ) (chart : Chart) (table : Lent) : Type 0 where
   pub short : tableShort (planOf chart) table ≡ true → checked bytes table ≡ CheckerRefused ShortBuffer
-  pub answers : tableShort (planOf chart) table ≡ false → (checked bytes table ≡ Passes) ⊎ (checked bytes table ≡ Fails)
+  pub answers : tableShort (planOf chart) table ≡ false → (checked bytes table ≡ Yes) ⊎ (checked bytes table ≡ No)
 
--- A floor and a ceiling for each node; "a miss costs at least a hit".
-pub record Priced (chart : Chart) (prices : Prices) : Type 0 where
-  pub floors-long : length (prices .floors) ≡ chart .header .nodes
-  pub ceilings-long : length (prices .ceilings) ≡ chart .header .nodes
-  pub costs : prices .hitCost ≤ prices .missCost
+-- Rules 11.14 and 11.15 do not apply: floors and ceilings are as many as nodes, and a miss is no cheaper than a hit.
+pub record FiguresFit (chart : Chart) (figures : Figures) : Type 0 where
+  pub floors-long : length (figures .floors) ≡ chart .header .nodes
+  pub ceilings-long : length (figures .ceilings) ≡ chart .header .nodes
+  pub costs : figures .costs .hit ≤ figures .costs .miss
 
--- What has to hold for sums to be given: rows 11 and 13 to 17 turned round, as statements.
-pub record Summable (chart : Chart) (table : Lent) (prices : Prices) : Type 0 where
-  pub passes : TablePasses (planOf chart) table
-  pub priced : Priced chart prices
-  pub not-crossed : (n : ℕ) → n < chart .header .nodes → getD (prices .floors) n 0 ≤ getD (prices .ceilings) n 0
-  pub none-unmarked : (n : ℕ) → n < chart .header .nodes → getD (table .marks) n 0 ≡ 0 → getD (prices .floors) n 0 ≡ 0
+-- What has to hold for sums to be given: rules 11.11 and 11.13 to 11.17 turned round, as statements.
+pub record Summable (chart : Chart) (table : Lent) (figures : Figures) : Type 0 where
+  pub passing : TablePasses (planOf chart) table
+  pub figures-fit : FiguresFit chart figures
+  pub not-crossed : (n : ℕ) → n < chart .header .nodes → getD (figures .floors) n 0 ≤ getD (figures .ceilings) n 0
+  pub none-unmarked : (n : ℕ) → n < chart .header .nodes → getD (table .marks) n 0 ≡ 0 → getD (figures .floors) n 0 ≡ 0
 
--- The totals of an accepted chart: exactly the first of 11 and 13 to 17 that applies, else the two sums. 11 and 13 are the checker's
--- refusal and its no.
-pub record TotalsRefusals (bytes : List ℕ) (chart : Chart) (table : Lent) (prices : Prices) : Type 0 where
-  pub given : (refusal : Refusal) → FirstApplies (totalRules (planOf chart) table prices) refusal → totals bytes table prices ≡ TotalsRefused refusal
-  pub only : (refusal : Refusal) → totals bytes table prices ≡ TotalsRefused refusal → FirstApplies (totalRules (planOf chart) table prices) refusal
-  pub order : numbersOf (totalRules (planOf chart) table prices) ≡ 11 ∷ 13 ∷ 14 ∷ 15 ∷ 16 ∷ 17 ∷ []
-  pub sums : Summable chart table prices
-      → totals bytes table prices ≡ Between (lowTotal (planOf chart) (tableOf (planOf chart) table) prices) (highTotal (planOf chart) (tableOf (planOf chart) table) prices)
-  pub only-sums : (low high : ℕ) → totals bytes table prices ≡ Between low high → Summable chart table prices
-  pub short : checked bytes table ≡ CheckerRefused ShortBuffer → totals bytes table prices ≡ TotalsRefused ShortBuffer
-  pub fails : checked bytes table ≡ Fails → totals bytes table prices ≡ TotalsRefused NotPassing
+-- Rule 12.6, of the totals of an accepted chart: exactly the first of 11 and 13 to 17 that applies, else the two sums. 11 and 13 are the
+-- checker's refusal and its no.
+pub record TotalsRefusals (bytes : List ℕ) (chart : Chart) (table : Lent) (figures : Figures) : Type 0 where
+  pub given : (refusal : Refusal) → FirstApplies (totalCases (planOf chart) table figures) refusal → totals bytes table figures ≡ TotalsRefused refusal
+  pub only : (refusal : Refusal) → totals bytes table figures ≡ TotalsRefused refusal → FirstApplies (totalCases (planOf chart) table figures) refusal
+  pub order : numbersOf (totalCases (planOf chart) table figures) ≡ 11 ∷ 13 ∷ 14 ∷ 15 ∷ 16 ∷ 17 ∷ []
+  pub sums : Summable chart table figures
+      → totals bytes table figures ≡ Between (lowTotal (planOf chart) (tableOf (planOf chart) table) figures) (highTotal (planOf chart) (tableOf (planOf chart) table) figures)
+  pub only-sums : (low high : ℕ) → totals bytes table figures ≡ Between low high → Summable chart table figures
+  pub short : checked bytes table ≡ CheckerRefused ShortBuffer → totals bytes table figures ≡ TotalsRefused ShortBuffer
+  pub fails : checked bytes table ≡ No → totals bytes table figures ≡ TotalsRefused NotPassing
 
 pub record Demand1 : Type 0 where
   pub readings : ReadingRefusals
@@ -149,18 +150,18 @@ pub record Demand1 : Type 0 where
       → readChart bytes ≡ accepted chart
       → AnalysisRefusals bytes chart allowance lent
   pub checker : (bytes : List ℕ) (chart : Chart) (table : Lent) → readChart bytes ≡ accepted chart → CheckerRefusals bytes chart table
-  pub totalling : (bytes : List ℕ) (chart : Chart) (table : Lent) (prices : Prices)
+  pub totalling : (bytes : List ℕ) (chart : Chart) (table : Lent) (figures : Figures)
       → readChart bytes ≡ accepted chart
-      → TotalsRefusals bytes chart table prices
-  -- "The analysis uses 1 to 12", "the checker uses 1 to 11", "the totals use 1 to 11 and 13 to 17"
+      → TotalsRefusals bytes chart table figures
+  -- rules 12.1, 12.3, 12.5 and 12.6: which numbers a function gives, and no others
   pub header-numbers : (bytes : List ℕ) → readHeaderSays bytes .number ≤ 8
   pub reading-numbers : (bytes : List ℕ) → readSays bytes .number ≤ 10
   pub analysis-numbers : (bytes : List ℕ) (allowance : ℕ) (lent : Buffers) → analyseSays bytes allowance lent .number ≤ 12
   pub checker-numbers : (bytes : List ℕ) (table : Lent) → checkSays bytes table .number ≤ 11
-  pub totals-numbers : (bytes : List ℕ) (table : Lent) (prices : Prices)
-      → (totalSays bytes table prices .number ≤ 17) × (totalSays bytes table prices .number ≡ 12 → ⊥)
-  -- "Every refusal returns its number and place, with pass count, block count and totals 0, save that 12 also returns the allowance
-  -- and B": an answer has those of them that its function returns, the header's and the checker's none
+  pub totals-numbers : (bytes : List ℕ) (table : Lent) (figures : Figures)
+      → (totalSays bytes table figures .number ≤ 17) × (totalSays bytes table figures .number ≡ 12 → ⊥)
+  -- rule 12.8: beside number and place there is 0 for what the function would have counted, and no header; refusal 12 comes with the allowance
+  -- and B
   pub header-refusal : (bytes : List ℕ) (refusal : Refusal) → headerRead bytes ≡ HeaderRefused refusal → readHeaderSays bytes ≡ record { number = numberOf refusal; place = placeOf refusal; header = [] }
   pub reading-refusal : (bytes : List ℕ) (refusal : Refusal)
       → reading bytes .verdict ≡ ReaderRefused refusal
@@ -179,18 +180,18 @@ pub record Demand1 : Type 0 where
   pub checker-refusal : (bytes : List ℕ) (table : Lent) (refusal : Refusal)
       → checked bytes table ≡ CheckerRefused refusal
       → checkSays bytes table ≡ record { number = numberOf refusal; place = placeOf refusal; yes = 0 }
-  pub totals-refusal : (bytes : List ℕ) (table : Lent) (prices : Prices) (refusal : Refusal)
-      → totals bytes table prices ≡ TotalsRefused refusal
-      → totalSays bytes table prices ≡ record { number = numberOf refusal; place = placeOf refusal; low = 0; high = 0 }
+  pub totals-refusal : (bytes : List ℕ) (table : Lent) (figures : Figures) (refusal : Refusal)
+      → totals bytes table figures ≡ TotalsRefused refusal
+      → totalSays bytes table figures ≡ record { number = numberOf refusal; place = placeOf refusal; low = 0; high = 0 }
   -- no buffer grows or shrinks
   pub same-lengths : (bytes : List ℕ) (allowance : ℕ) (lent : Buffers) → SameLengths lent (analysed bytes allowance lent .buffers)
-  -- "Both read only the used parts of a lent table; neither writes to anything lent": what is lent to them are `&` slices, which cannot
-  -- be written to
+  -- rule 12.7: checker and totals cannot tell two tables apart that differ beyond the used parts. That they write to nothing needs no field: what
+  -- is lent to them are `&` slices
   pub checker-used : (bytes : List ℕ) (chart : Chart) (one other : Lent)
       → readChart bytes ≡ accepted chart
       → SameUsed (planOf chart) one other
       → checked bytes one ≡ checked bytes other
-  pub totals-used : (bytes : List ℕ) (chart : Chart) (one other : Lent) (prices : Prices)
+  pub totals-used : (bytes : List ℕ) (chart : Chart) (one other : Lent) (figures : Figures)
       → readChart bytes ≡ accepted chart
       → SameUsed (planOf chart) one other
-      → totals bytes one prices ≡ totals bytes other prices
+      → totals bytes one figures ≡ totals bytes other figures

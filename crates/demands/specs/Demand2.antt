@@ -1,10 +1,11 @@
--- Demand 2, as those who ordered the tool put it: "Ages are those of the published LRU must and may analysis. A checker passes a table
--- exactly when it meets the equations of document 01. The built-in analysis is refused only as 01 lists; otherwise its table passes and is
--- the tightest of all that pass."
--- (The ages are those of that analysis by definition: cache/specs/Ages.antt, over columns whose keys stand for their blocks' sets, as
--- `keys-sets` and `sets-keys` say, in the shape that the bytes say, `shape-said`. That the analysis is refused only as 01 lists is
--- `Demand1.readings` and `Demand1.analysis`.)
--- Proved as `demand2` in proofs/Demand2.antt.
+-- Demand 2, as those who ordered the tool put it, with the numbers of the rules: "Ages are those of the published LRU must and may analysis. A
+-- checker passes a table exactly when it meets the equations of rules 7.2 to 7.6. The built-in analysis is refused only as rule 12.3 lists;
+-- otherwise its table passes and is the tightest of all that pass."
+-- (The ages are those of that analysis: `published`, of the definitions in cache/specs/Ages.antt, here over columns whose keys stand for their
+-- blocks' sets, as `keys-sets` and `sets-keys` say, in the shape that the bytes say, `shape-said`. That the analysis is refused only as rule 12.3
+-- lists is `Demand1.readings` and `Demand1.analysis`.)
+-- It speaks of rules 1.2, 3.2, 4.6, 4.7, 6.2 to 6.6, 7.3, 7.7 to 7.9, 9.5, 9.6, 12.2, 12.4, 12.5 and 13.2. Proved as `demand2` in
+-- proofs/Demand2.antt.
 use Prim.Native.Nat.{ℕ, suc, _+_, _*_, _%_, _^_, _≤_, _<_}
 use mathlib.Core.Path.{_≡_}
 use mathlib.Core.Bool.{true, false}
@@ -19,6 +20,7 @@ use Rattle.chart.specs.Bytes.{AreBytes, headerBytes}
 use Rattle.ages.specs.Plan.{columnsOf}
 use Rattle.ages.specs.Charted.{blockAt, setAt, keyAt, planOf, agesFlow, mostPasses}
 use Rattle.cache.specs.Plain.{Cache, Formed, emptyCache}
+use Rattle.cache.specs.Published.{AsPublished}
 use Rattle.machine.specs.Machine.{waysOf, keyOf, plainMachine}
 use Rattle.tables.specs.Lent.{Lent, tableOf, TablePasses}
 use Rattle.analysis.specs.declared.Analysed.the-variants.{Settled}
@@ -27,32 +29,33 @@ use Rattle.checker.specs.Checker.{checkSays}
 use Rattle.report.specs.Report.{taken, zeroBuffers}
 
 -- The checker says yes.
-abbrev pub CheckerPasses : List ℕ → Lent → Type 0
-CheckerPasses bytes table = checkSays bytes table .yes ≡ 1
+abbrev pub CheckerYes : List ℕ → Lent → Type 0
+CheckerYes bytes table = checkSays bytes table .yes ≡ 1
 
 -- What holds of a chart, of the buffers lent and of the buffers left by an analysis that settled after so many passes.
 pub record Settles (chart : Chart) (passes blocks : ℕ) (lent left : Buffers) : Type 0 where
-  -- "returns its pass count and B"
-  pub counted : blocks ≡ blockCount chart
-  -- "settled after the first pass that changes nothing", "that last one included"
+  -- rule 12.4
+  pub blocks-is : blocks ≡ blockCount chart
+  -- rule 9.5: the last pass that was made is the first without a change
   pub made : 0 < passes
   pub last : (k : ℕ) → suc k ≡ passes → pass (agesFlow chart) (afterPasses (agesFlow chart) k) .changed ≡ false
   pub earlier : (k : ℕ) → suc k < passes → pass (agesFlow chart) (afterPasses (agesFlow chart) k) .changed ≡ true
-  -- "It is at most N(1 + 2BA) + 1"
+  -- rule 9.6
   pub count : passes ≤ mostPasses chart
-  -- all five buffers, by the table after that many passes: blocks, ages, marks and classes written, tails kept
+  -- rule 12.2: all five buffers, by the table after that many passes
   pub filled : left ≡ filledBy (planOf chart) (chart .blocks) (afterPasses (agesFlow chart) passes) lent
   pub table : tableOf (planOf chart) (tableIn left) ≡ afterPasses (agesFlow chart) passes
-  -- "its table passes"
+  -- "its table passes": rule 7.7
   pub table-passes : TablePasses (planOf chart) (tableIn left)
-  -- "and is the tightest of all that pass"
+  -- "and is the tightest of all that pass": rule 7.8
   pub tightest : Tightest (agesFlow chart) (tableOf (planOf chart) (tableIn left))
-  -- "The tightest marks a node exactly if a walk reaches it."
+  -- rule 7.9
   pub marked-reached : (n : ℕ) → Marked (cellAt (tableOf (planOf chart) (tableIn left)) n) → Reached (arrows chart) (chart .header .entry) n
   pub reached-marked : (n : ℕ) → Reached (arrows chart) (chart .header .entry) n → Marked (cellAt (tableOf (planOf chart) (tableIn left)) n)
 
--- A set of the plain machine has A ways, the ages of every column of a plan are at most A, a block's set is its number mod 2^S, and the start is
--- empty or unknown: as the bytes say it. The machine may begin with any lists of its form where the start is unknown.
+-- Rules 1.2, 3.2, 4.6, 4.7, 7.3 and 9.6 of one shape, that of the bytes: a set of the plain machine has A ways, the ages of every column of a plan
+-- are at most A, a block's set is its number mod 2^S, and the start is empty or unknown. Where it is unknown, the machine may begin with any lists
+-- of its form.
 pub record ShapeSaid (bytes : List ℕ) (chart : Chart) : Type 0 where
   pub must-limits : (column : ℕ) → column < blockCount chart → columnsOf (planOf chart) .mustLimit column ≡ headerBytes bytes .ways
   pub may-limits : (column : ℕ) → column < blockCount chart → columnsOf (planOf chart) .mayLimit column ≡ headerBytes bytes .ways
@@ -69,34 +72,36 @@ pub record ShapeSaid (bytes : List ℕ) (chart : Chart) : Type 0 where
   pub most-passes : mostPasses chart ≡ chart .header .nodes * (1 + 2 * blockCount chart * headerBytes bytes .ways) + 1
 
 pub record Demand2 : Type 0 where
+  -- rules 6.3, 6.4 and 6.6: the ages are those of the published analysis
+  pub published : AsPublished
   pub shape-said : (bytes : List ℕ) (chart : Chart) → AreBytes bytes → readChart bytes ≡ accepted chart → ShapeSaid bytes chart
-  -- two columns have one key exactly if their blocks are of one set
+  -- two columns have one key exactly if their blocks are of one set (rule 3.2)
   pub keys-sets : (chart : Chart) (i j : ℕ) → keyAt chart i ≡ keyAt chart j → setAt chart i ≡ setAt chart j
   pub sets-keys : (chart : Chart) (i j : ℕ) → setAt chart i ≡ setAt chart j → keyAt chart i ≡ keyAt chart j
-  -- the checker says yes exactly if the table passes
+  -- the checker says yes exactly if the table passes (rules 7.7 and 12.5)
   pub checker-yes : (bytes : List ℕ) (chart : Chart) (table : Lent)
       → readChart bytes ≡ accepted chart
-      → CheckerPasses bytes table
+      → CheckerYes bytes table
       → TablePasses (planOf chart) table
   pub yes-checker : (bytes : List ℕ) (chart : Chart) (table : Lent)
       → readChart bytes ≡ accepted chart
       → TablePasses (planOf chart) table
-      → CheckerPasses bytes table
-  -- an analysis that settles leaves the tightest table, which the checker passes
+      → CheckerYes bytes table
+  -- an analysis that settles leaves the tightest table (rule 7.8), which the checker passes
   pub settled : (bytes : List ℕ) (chart : Chart) (allowance passes blocks : ℕ) (lent : Buffers)
       → readChart bytes ≡ accepted chart
       → analysed bytes allowance lent .answer ≡ Settled passes blocks
       → Settles chart passes blocks lent (analysed bytes allowance lent .buffers)
   pub settled-yes : (bytes : List ℕ) (allowance passes blocks : ℕ) (lent : Buffers)
       → analysed bytes allowance lent .answer ≡ Settled passes blocks
-      → CheckerPasses bytes (tableIn (analysed bytes allowance lent .buffers))
-  -- an accepted chart with room settles within every allowance of at least N(1 + 2BA) + 1 passes
+      → CheckerYes bytes (tableIn (analysed bytes allowance lent .buffers))
+  -- rule 9.6: an accepted chart with room settles within every allowance that is no less than its number
   pub enough : (bytes : List ℕ) (chart : Chart) (allowance : ℕ) (lent : Buffers)
       → readChart bytes ≡ accepted chart
       → buffersShort (planOf chart) lent ≡ false
       → mostPasses chart ≤ allowance
       → (passes : ℕ) × (analysed bytes allowance lent .answer ≡ Settled passes (blockCount chart))
-  -- so the analysis settles with the program's allowance, 262,401, and buffers, which have room for the largest chart
+  -- so the analysis settles with the program's allowance (rule 13.2) and buffers, which have room for the largest chart
   pub program-settles : (input : List ℕ) (chart : Chart)
       → readChart (taken input) ≡ accepted chart
       → (passes : ℕ) × (analysed (taken input) allPasses (zeroBuffers mostNodes mostBlocks) .answer ≡ Settled passes (blockCount chart))

@@ -1,7 +1,8 @@
 -- Demand 3, as those who ordered the tool put it: "For any table that passes, any walk along arrows from the entry and any starting
 -- contents the chart allows, the plain cache run along it hits where a hit was called and misses where a miss was called; and if visits
 -- lie between floors and ceilings and a miss costs at least a hit, the cost that machine counts lies between the two totals."
--- Proved as `demand3` in proofs/Demand3.antt.
+-- The plain cache is that of rules 4.1 to 4.7, walk, visits and machine those of rules 5.1 to 5.3, what ages say is rule 6.1, what is called goes by
+-- rules 8.1 and 8.2, the totals by rules 10.1 to 10.3. Proved as `demand3` in proofs/Demand3.antt.
 use Prim.Native.Nat.{ℕ, _≤_, _<_}
 use mathlib.Core.Path.{_≡_}
 use mathlib.Core.Bool.{true, false}
@@ -16,32 +17,32 @@ use Rattle.flow.specs.Walk.{Walk, visitsOf, AtTouches, AtNodes}
 use Rattle.ages.specs.Charted.{columnTouch, planOf, touchedBy}
 use Rattle.classes.specs.Class.{unreached, hit, miss, classOf, nodeClass, CalledRight, AllTold}
 use Rattle.machine.specs.Machine.{plainMachine, Contents, AgesTrue, costOf}
-use Rattle.costs.specs.Costs.{Prices, classesAt}
+use Rattle.costs.specs.Costs.{Figures, classesAt}
 use Rattle.tables.specs.Lent.{Lent, agesAt, tableOf}
 use Rattle.analysis.specs.declared.Analysed.the-variants.{Settled}
 use Rattle.analysis.specs.Analysis.{Buffers, analysed}
 use Rattle.totals.specs.declared.Totals.{Totals}
 use Rattle.totals.specs.Totals.{totals, totalsSay}
-use Rattle.demands.specs.Demand1.{Priced}
-use Rattle.demands.specs.Demand2.{CheckerPasses}
+use Rattle.demands.specs.Demand1.{FiguresFit}
+use Rattle.demands.specs.Demand2.{CheckerYes}
 
 -- ---- what is given
 
--- A chart that the bytes read as, starting contents that the chart allows, and a walk.
+-- A chart that the bytes read as, starting contents that the chart allows (rules 4.6 and 4.7), and a walk (rule 5.1).
 pub record OnWalk (bytes : List ℕ) (chart : Chart) (contents : Contents chart) (ts : List ℕ) : Type 0 where
   pub read : readChart bytes ≡ accepted chart
   pub begins : plainMachine chart .Begins contents
   pub walk : Walk (arrows chart) (chart .header .entry) ts
 
--- "visits lie between floors and ceilings"
-pub record VisitsWithin (chart : Chart) (prices : Prices) (ts : List ℕ) : Type 0 where
-  pub no-less : (n : ℕ) → n < chart .header .nodes → getD (prices .floors) n 0 ≤ visitsOf n (chart .header .entry ∷ ts)
-  pub no-more : (n : ℕ) → n < chart .header .nodes → visitsOf n (chart .header .entry ∷ ts) ≤ getD (prices .ceilings) n 0
+-- "visits lie between floors and ceilings": rules 5.2 and 10.1
+pub record VisitsWithin (chart : Chart) (figures : Figures) (ts : List ℕ) : Type 0 where
+  pub no-less : (n : ℕ) → n < chart .header .nodes → getD (figures .floors) n 0 ≤ visitsOf n (chart .header .entry ∷ ts)
+  pub no-more : (n : ℕ) → n < chart .header .nodes → visitsOf n (chart .header .entry ∷ ts) ≤ getD (figures .ceilings) n 0
 
 -- The visits are known: each floor and each ceiling is how often the walk visits the node.
-pub record VisitsKnown (chart : Chart) (prices : Prices) (ts : List ℕ) : Type 0 where
-  pub floors : (n : ℕ) → n < chart .header .nodes → getD (prices .floors) n 0 ≡ visitsOf n (chart .header .entry ∷ ts)
-  pub ceilings : (n : ℕ) → n < chart .header .nodes → getD (prices .ceilings) n 0 ≡ visitsOf n (chart .header .entry ∷ ts)
+pub record VisitsKnown (chart : Chart) (figures : Figures) (ts : List ℕ) : Type 0 where
+  pub floors : (n : ℕ) → n < chart .header .nodes → getD (figures .floors) n 0 ≡ visitsOf n (chart .header .entry ∷ ts)
+  pub ceilings : (n : ℕ) → n < chart .header .nodes → getD (figures .ceilings) n 0 ≡ visitsOf n (chart .header .entry ∷ ts)
 
 -- By a table, each reference of a node is a hit or a miss.
 abbrev pub Sure : (chart : Chart) → Lent → ℕ → Contents chart → Type 0
@@ -49,7 +50,7 @@ Sure chart table n contents = AllTold (classesAt (planOf chart) n (agesAt (planO
 
 -- ---- what is promised
 
--- A touch called a hit, by the ages just before it, is found by the machine, and one called a miss is not.
+-- A touch called a hit, by the ages just before it (rule 8.2), is found by the machine, and one called a miss is not.
 abbrev pub TouchRight : (chart : Chart) → Touch → Ages → Contents chart → Type 0
 TouchRight chart touch a contents =
     CalledRight (classOf (planOf chart) (columnTouch chart touch) a) (plainMachine chart .finds touch contents)
@@ -57,8 +58,7 @@ TouchRight chart touch a contents =
 -- What a table says of a node, where the machine arrives with these contents.
 pub record SaysTrue (chart : Chart) (table : Lent) (n : ℕ) (contents : Contents chart) : Type 0 where
   pub marked : Marked (cellAt (tableOf (planOf chart) table) n)
-  -- the contents still are of the machine's form, no block is older than its must age, and none is younger than its may age (`Bounds` of
-  -- the crate `cache`)
+  -- rules 4.1 and 6.1: the contents still are of the machine's form, and each block is within its two ages (`Bounds` of the crate `cache`)
   pub ages-true : AgesTrue chart (agesAt (planOf chart) table n) contents
   -- a node that makes one reference: called a hit it hits, called a miss it misses
   pub node-hit : (touch : Touch)
@@ -83,16 +83,16 @@ abbrev pub AtEachNode : (chart : Chart) → (ℕ → Contents chart → Type 0) 
 AtEachNode chart P ts contents = AtNodes (plainMachine chart) P (touches chart) (chart .header .entry) ts contents
 
 -- An answer is no refusal, and the cost that the machine counts lies between the two totals that it returns.
-pub record CostBetween (chart : Chart) (prices : Prices) (ts : List ℕ) (contents : Contents chart) (answer : Totals) : Type 0 where
+pub record CostBetween (chart : Chart) (figures : Figures) (ts : List ℕ) (contents : Contents chart) (answer : Totals) : Type 0 where
   pub given : totalsSay answer .number ≡ 0
-  pub no-less : totalsSay answer .low ≤ costOf chart (prices .hitCost) (prices .missCost) ts contents
-  pub no-more : costOf chart (prices .hitCost) (prices .missCost) ts contents ≤ totalsSay answer .high
+  pub no-less : totalsSay answer .low ≤ costOf chart (figures .costs .hit) (figures .costs .miss) ts contents
+  pub no-more : costOf chart (figures .costs .hit) (figures .costs .miss) ts contents ≤ totalsSay answer .high
 
 -- An answer is no refusal, and both its totals are the cost that the machine counts.
-pub record CostExactly (chart : Chart) (prices : Prices) (ts : List ℕ) (contents : Contents chart) (answer : Totals) : Type 0 where
+pub record CostExactly (chart : Chart) (figures : Figures) (ts : List ℕ) (contents : Contents chart) (answer : Totals) : Type 0 where
   pub given : totalsSay answer .number ≡ 0
-  pub low : totalsSay answer .low ≡ costOf chart (prices .hitCost) (prices .missCost) ts contents
-  pub high : totalsSay answer .high ≡ costOf chart (prices .hitCost) (prices .missCost) ts contents
+  pub low : totalsSay answer .low ≡ costOf chart (figures .costs .hit) (figures .costs .miss) ts contents
+  pub high : totalsSay answer .high ≡ costOf chart (figures .costs .hit) (figures .costs .miss) ts contents
 
 -- ---- the demand
 -- The answers of the functions come in by their contracts: `checker::check` answers `checked`, `totals::total` answers `totals`, and
@@ -102,7 +102,7 @@ pub record Demand3 : Type 0 where
   -- whatever table the checker passes, at each step of the walk
   pub says-true : (bytes : List ℕ) (chart : Chart) (table : Lent) (contents : Contents chart) (ts : List ℕ)
       → OnWalk bytes chart contents ts
-      → CheckerPasses bytes table
+      → CheckerYes bytes table
       → AtEachNode chart (SaysTrue chart table) ts contents
   -- so, too, the classes that the analysis has written
   pub written-true : (bytes : List ℕ) (chart : Chart) (allowance passes blocks : ℕ) (lent : Buffers) (contents : Contents chart) (ts : List ℕ)
@@ -110,26 +110,26 @@ pub record Demand3 : Type 0 where
       → analysed bytes allowance lent .answer ≡ Settled passes blocks
       → AtEachNode chart (ClassTrue chart (analysed bytes allowance lent .buffers .classes)) ts contents
   -- whatever table the checker passes, the totals are given, and the cost lies between them
-  pub cost-between : (bytes : List ℕ) (chart : Chart) (table : Lent) (prices : Prices) (contents : Contents chart) (ts : List ℕ) (answer : Totals)
+  pub cost-between : (bytes : List ℕ) (chart : Chart) (table : Lent) (figures : Figures) (contents : Contents chart) (ts : List ℕ) (answer : Totals)
       → OnWalk bytes chart contents ts
-      → CheckerPasses bytes table
-      → Priced chart prices
-      → VisitsWithin chart prices ts
-      → answer ≡ totals bytes table prices
-      → CostBetween chart prices ts contents answer
-  -- and wherever totals are given, the cost lies between them, with nothing else to ask of the table or the prices
-  pub given-between : (bytes : List ℕ) (chart : Chart) (table : Lent) (prices : Prices) (contents : Contents chart) (ts : List ℕ) (answer : Totals)
+      → CheckerYes bytes table
+      → FiguresFit chart figures
+      → VisitsWithin chart figures ts
+      → answer ≡ totals bytes table figures
+      → CostBetween chart figures ts contents answer
+  -- and wherever totals are given, the cost lies between them, with nothing else to ask of the table or the figures
+  pub given-between : (bytes : List ℕ) (chart : Chart) (table : Lent) (figures : Figures) (contents : Contents chart) (ts : List ℕ) (answer : Totals)
       → OnWalk bytes chart contents ts
-      → VisitsWithin chart prices ts
-      → answer ≡ totals bytes table prices
+      → VisitsWithin chart figures ts
+      → answer ≡ totals bytes table figures
       → totalsSay answer .number ≡ 0
-      → CostBetween chart prices ts contents answer
+      → CostBetween chart figures ts contents answer
   -- (beyond the demand: where everything on the walk is called a hit or a miss and the visits are known, both totals are the cost)
-  pub cost-exactly : (bytes : List ℕ) (chart : Chart) (table : Lent) (prices : Prices) (contents : Contents chart) (ts : List ℕ) (answer : Totals)
+  pub cost-exactly : (bytes : List ℕ) (chart : Chart) (table : Lent) (figures : Figures) (contents : Contents chart) (ts : List ℕ) (answer : Totals)
       → OnWalk bytes chart contents ts
-      → CheckerPasses bytes table
-      → Priced chart prices
-      → VisitsKnown chart prices ts
+      → CheckerYes bytes table
+      → FiguresFit chart figures
+      → VisitsKnown chart figures ts
       → AtEachNode chart (Sure chart table) ts contents
-      → answer ≡ totals bytes table prices
-      → CostExactly chart prices ts contents answer
+      → answer ≡ totals bytes table figures
+      → CostExactly chart figures ts contents answer

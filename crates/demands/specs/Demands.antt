@@ -1,23 +1,25 @@
 -- The three demands, whole, in plain words; the name of the proof stands beside each. `demands` in proofs/Demands.antt is all three.
+-- The signs used in definitions and contracts are explained in docs/NOTATION.md; the rules are docs/RULES.md. A demand is no rule: it is what
+-- the rules are for.
 --
 -- What the words mean. A *chart* is a program drawn as nodes and arrows, with an *entry* where it starts; a node may make one *reference*
--- to memory. Memory is cut into *blocks*, and the cache holds a few of them, in sets. A reference *hits* if its block is in the cache, else it
+-- to memory. Memory is cut into *blocks*, and the cache holds a few of them, in sets. Where the cache has the block, a reference *hits*; else it
 -- *misses* and costs more. A *walk* begins at the entry, goes along arrows and may stop anywhere; every run of the program is one. The
--- *plain machine* is the cache as document 01 draws it, a list for each set, which anybody can follow with a pencil; a block's *age* is its
+-- *plain machine* is the cache of rules 4.1 to 4.7, a list for each set, which anybody can follow with a pencil; a block's *age* is its
 -- place in its list, and one that is not there counts as the oldest.
 --
 -- A *table* marks the nodes that a walk can come to, and perhaps more; for each of them and each block it has two ages: when a walk comes
 -- there, the block is no older than the one and no younger than the other. From them a reference is called a hit, a miss, or unsure. The
 -- *analysis* makes such a table; the *checker* tries one that anybody made. For each node the caller says how often a walk visits it, no
 -- less than a *floor* and no more than a *ceiling*; what a walk then costs lies between the two *totals*. A caller lends *buffers*, as long
--- as it likes, for a function to read or to fill. Where a function cannot answer it gives a *refusal*, a number from document 01's list,
+-- as it likes, for a function to read or to fill. Where a function cannot answer it gives a *refusal*, a number by rules 11.0 to 11.17,
 -- with the node at fault.
 --
 -- 1. Ask it anything. Whatever bytes come, and however short a lent buffer is, the reader of charts, the analysis, the checker and the totals
 --    give an answer or a refusal. It is written down when each refusal is given, what it returns and what it leaves in the buffers. A caller
 --    checks nothing first.                                                               `demand1` in proofs/Demand1.antt
 --
--- 2. It says as much as can be said. The checker passes a table exactly if it meets the equations that document 01 sets for ages. Where the
+-- 2. It says as much as can be said. The checker passes a table exactly if it keeps rules 7.2 to 7.6, which are the equations of ages. Where the
 --    analysis is not refused (and 1 says where it is), its table passes, and no table that passes says more. A tool that called
 --    everything unsure would break this demand.                                          `demand2` in proofs/Demand2.antt
 --

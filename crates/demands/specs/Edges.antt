@@ -1,6 +1,6 @@
 -- Soundings at edges where a wrong rule of analysis, machine, checker, totals or report would show and nowhere else: tails behind what is
 -- used, a chart without blocks in buffers without places, the largest costs, classes by ages of eight ways, marks after each pass, a report
--- of two-digit nodes.
+-- of two-digit nodes. Nothing here is a rule of the tool: it is what rules 7.3, 8.1, 9.1 to 9.4, 10.2, 10.3, 12.2, 12.3 and 14.1 to 14.4 come to.
 use Prim.Native.Nat.{ℕ}
 use mathlib.Core.List.{List, [], _∷_, _++_}
 use lib.ListN.{replicate}
@@ -18,14 +18,14 @@ use Rattle.machine.specs.Machine.{costOf}
 use Rattle.demands.specs.Charts.{loopChart, chain}
 use Rattle.demands.specs.Soundings.{loop, tenTurns}
 use Rattle.demands.specs.Refused.{sevens}
-use Rattle.demands.specs.Tabled.{checking, three, totalling, priced, loopTable, stopped}
-use Rattle.demands.specs.Shared.{noBlockZero, noReference, fromTwo, classesOf}
+use Rattle.demands.specs.Tabled.{checking, three, totalling, figuresWith, loopTable, stopped}
+use Rattle.demands.specs.Shared.{noBlockZero, noReference, fromTwo, classesLeft}
 
 -- ---- what is left behind
 
 -- The loop chart settled in buffers that are one longer than used.
-abbrev pub kept : Buffers
-kept = analysed loopChart allPasses (sevens 2 4 4 4 4) .buffers
+abbrev pub withTails : Buffers
+withTails = analysed loopChart allPasses (sevens 2 4 4 4 4) .buffers
 
 -- Refused for a short block list (11), and for having no bytes (1).
 abbrev pub untouched : Buffers
@@ -37,11 +37,11 @@ unread = analysed [] allPasses (sevens 1 1 1 1 1) .buffers
 abbrev pub leftBehind : List Sounding
 leftBehind =
     -- each tail after an analysis that settles
-    (kept .blocks reads (0 ∷ 7 ∷ []))
-    ∷ (kept .must reads (2 ∷ 2 ∷ 0 ∷ 7 ∷ []))
-    ∷ (kept .may reads (2 ∷ 0 ∷ 0 ∷ 7 ∷ []))
-    ∷ (kept .marks reads (1 ∷ 1 ∷ 1 ∷ 7 ∷ []))
-    ∷ (kept .classes reads (4 ∷ 3 ∷ 1 ∷ 7 ∷ []))
+    (withTails .blocks reads (0 ∷ 7 ∷ []))
+    ∷ (withTails .must reads (2 ∷ 2 ∷ 0 ∷ 7 ∷ []))
+    ∷ (withTails .may reads (2 ∷ 0 ∷ 0 ∷ 7 ∷ []))
+    ∷ (withTails .marks reads (1 ∷ 1 ∷ 1 ∷ 7 ∷ []))
+    ∷ (withTails .classes reads (4 ∷ 3 ∷ 1 ∷ 7 ∷ []))
     -- nothing has changed after 11 and 1
     ∷ ((untouched .blocks ++ untouched .must ++ untouched .may ++ untouched .marks ++ untouched .classes) reads replicate 16 7)
     ∷ ((unread .blocks ++ unread .must ++ unread .may ++ unread .marks ++ unread .classes) reads replicate 5 7)
@@ -67,7 +67,7 @@ marksAfter passes = lentOf (planOf (chartIn fromTwo)) (afterPasses (agesFlow (ch
 
 abbrev pub edges : List Sounding
 edges =
-    (classesOf 5 3 rewritten reads (2 ∷ 2 ∷ 1 ∷ 2 ∷ 2 ∷ []))
+    (classesLeft 5 3 rewritten reads (2 ∷ 2 ∷ 1 ∷ 2 ∷ 2 ∷ []))
     ∷ ((costOf (chartIn rewritten) 1 10 (1 ∷ 2 ∷ 3 ∷ 4 ∷ []) emptyCache ∷ []) reads (41 ∷ []))
     -- eight ways: must age 7 is a hit, may age 7 no miss
     ∷ ((classBy 8 7 0 ∷ classBy 8 7 8 ∷ classBy 8 8 8 ∷ classBy 8 8 7 ∷ []) reads (1 ∷ 1 ∷ 2 ∷ 3 ∷ []))
@@ -80,7 +80,7 @@ edges =
     ∷ (checking stopped (three (2 ∷ 2 ∷ 2 ∷ []) (2 ∷ 0 ∷ 0 ∷ []) (1 ∷ 1 ∷ 1 ∷ [])) reads (0 ∷ 1 ∷ []))
     -- the largest costs and ceilings: one miss and ten hits, and sums above 2^32
     ∷ ((costOf loop 65534 65535 tenTurns emptyCache ∷ []) reads (720875 ∷ []))
-    ∷ (totalling loopChart loopTable (priced 65534 65535 (1 ∷ 1 ∷ 1 ∷ []) (1 ∷ 65535 ∷ 65535 ∷ [])) reads (0 ∷ 0 ∷ 131068 ∷ 8589606915 ∷ []))
+    ∷ (totalling loopChart loopTable (figuresWith 65534 65535 (1 ∷ 1 ∷ 1 ∷ []) (1 ∷ 65535 ∷ 65535 ∷ [])) reads (0 ∷ 0 ∷ 131068 ∷ 8589606915 ∷ []))
     -- each digit
     ∷ (decimal 9758 reads (57 ∷ 55 ∷ 53 ∷ 56 ∷ []))
     ∷ (decimal 1234567890 reads (49 ∷ 50 ∷ 51 ∷ 52 ∷ 53 ∷ 54 ∷ 55 ∷ 56 ∷ 57 ∷ 48 ∷ []))

@@ -11,3 +11,5 @@ pub mod Mistakes
 pub mod Sounded
 pub mod Shared
 pub mod Edges
+pub mod Inner
+pub mod Examples

@@ -1,5 +1,5 @@
--- The five mistakes of document 01, "How my spreadsheet would fool you", each made on purpose where a right reading is known. Each
--- reads otherwise.
+-- Five mistakes that are easily made, each made on purpose where a right reading is known. Each reads otherwise. Nothing here is a rule of the
+-- tool: each breaks one.
 use Prim.Native.Nat.{ℕ, suc, _^_, min}
 use mathlib.Core.Bool.{true, cond}
 use mathlib.Core.List.{List, [], _∷_}
@@ -29,7 +29,7 @@ readsBy chart start step = classesAfter chart (settle (flowBy (planOf chart) sta
 
 -- ---- the mistakes
 
--- 1. "Reading sets as ways": 2^S ways in A sets, which is another chart; here A is 1.
+-- 1. Sets for ways, against rule 1.2: 2^S ways in A sets, which is another chart; here A is 1.
 abbrev pub setsAsWays : Chart → Chart
 setsAsWays chart =
     record {
@@ -47,19 +47,19 @@ abbrev pub swapped : Chart → List ℕ
 swapped chart =
     classesAfter (setsAsWays chart) (settle (agesFlow (setsAsWays chart)) allPasses)
 
--- 2. "In must, growing blocks that are at h, or in may leaving them": four ways, one set.
+-- 2. Against rule 6.3 a must age of h grows too; against rule 6.4 a may age of h stays. One set of four ways.
 abbrev pub mustAtH : ℕ → (ℕ → ℕ) → ℕ → ℕ
 mustAtH m age block = cond (eqb block m) 0 (cond (leb (age block) (age m)) (suc (age block)) (age block))
 
 abbrev pub mayLeavingH : ℕ → (ℕ → ℕ) → ℕ → ℕ
 mayLeavingH m age block = cond (eqb block m) 0 (cond (ltb (age block) (age m)) (min 4 (suc (age block))) (age block))
 
--- 3. "Forgetting the start at an entry that has arrows into it": where the only arrow is its own, it has what its own step brings.
+-- 3. Against rule 6.7 the start is not met at the entry: where the only arrow is its own, it has what its own step brings.
 abbrev pub startForgotten : Chart → List ℕ
 startForgotten chart =
     readsBy chart (agesFlow chart .step (chart .header .entry) (agesFlow chart .start)) (agesFlow chart .step)
 
--- 4. "Meeting an unmarked node's zero row as if it were a state": where no arrow leads to the entry, what a node is brought has met zeros.
+-- 4. Against rule 9.4 a target without a mark is met: where no arrow leads to the entry, what a node is brought has met its zeros.
 abbrev pub zeroRow : Chart → Ages
 zeroRow chart = record { must = replicate (blockCount chart) 0; may = replicate (blockCount chart) 0 }
 
@@ -67,7 +67,7 @@ abbrev pub zeroRowMet : Chart → List ℕ
 zeroRowMet chart =
     readsBy chart (agesFlow chart .start) (λ n a. meetAges (columnsOf (planOf chart)) (zeroRow chart) (agesFlow chart .step n a))
 
--- 5. "Starting may as empty when the contents are unknown."
+-- 5. Against rule 6.2 an unknown start has the may ages of an empty one.
 abbrev pub startedEmpty : Chart → List ℕ
 startedEmpty chart = readsBy chart (startAges (columnsOf (planOf chart)) true) (agesFlow chart .step)
 

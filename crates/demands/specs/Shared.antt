@@ -1,6 +1,7 @@
 -- Soundings of what the analysis and the plain machine share, which demands 2 and 3 therefore cannot catch: that a write touches its block as
 -- a read does, which blocks a chart has, a chart that touches nothing, sets where lines are long, many ways; and of pass counts, which show in
--- what order nodes are taken and that a state is worked out once.
+-- what order nodes are taken and that a state is worked out once. Nothing here is a rule of the tool: it is what rules 2.7, 2.8, 3.1, 3.2, 3.4,
+-- 5.3, 9.2 and 9.3 come to.
 use Prim.Native.Nat.{ℕ}
 use mathlib.Core.List.{List, [], _∷_, _++_}
 use lib.ListN.{set}
@@ -30,8 +31,8 @@ counts bytes =
     ∷ []
 
 -- Lines of 32 bytes, two sets of one way: reads of 0x00, 0x20, 0x00.
-abbrev pub longLines : List ℕ
-longLines = straightOf 0x40 (0x01 ∷ 0x51 ∷ 0x10 ∷ 0x00 ∷ 0x00 ∷ 0x30 ∷ 0x00 ∷ 0x00 ∷ []) 0x00 0x08
+abbrev pub wideLines : List ℕ
+wideLines = straightOf 0x40 (0x01 ∷ 0x51 ∷ 0x10 ∷ 0x00 ∷ 0x00 ∷ 0x30 ∷ 0x00 ∷ 0x00 ∷ []) 0x00 0x08
 
 -- One set of eight ways, unknown: reads of blocks 0, 1, 2, 3, 4 and 0.
 abbrev pub eightWays : List ℕ
@@ -57,8 +58,8 @@ selfLoopFirst =
     ++ (0x00 ∷ 0x00 ∷ 0x00 ∷ 0x00 ∷ 0x10 ∷ 0x01 ∷ 0x00 ∷ 0x00 ∷ [])
 
 -- The classes of a chart of so many nodes and blocks.
-abbrev pub classesOf : ℕ → ℕ → List ℕ → List ℕ
-classesOf nodes blocks bytes = analysed bytes allPasses (zeroBuffers nodes blocks) .buffers .classes
+abbrev pub classesLeft : ℕ → ℕ → List ℕ → List ℕ
+classesLeft nodes blocks bytes = analysed bytes allPasses (zeroBuffers nodes blocks) .buffers .classes
 
 -- What the walk through all nodes in turn costs from an empty cache, with 1 for a hit and 10 for a miss.
 abbrev pub chainCost : List ℕ → List ℕ → ℕ
@@ -93,10 +94,10 @@ sharedSoundings =
 abbrev pub shapeSoundings : List Sounding
 shapeSoundings =
     -- blocks 0 and 1 are of two sets, whatever the length of a line
-    (classesFor longLines reads (3 ∷ 3 ∷ 1 ∷ []))
-    ∷ ((straightCost longLines ∷ []) reads (21 ∷ []))
+    (classesFor wideLines reads (3 ∷ 3 ∷ 1 ∷ []))
+    ∷ ((straightCost wideLines ∷ []) reads (21 ∷ []))
     -- five blocks stay in eight ways
-    ∷ (classesOf 6 5 eightWays reads (3 ∷ 3 ∷ 3 ∷ 3 ∷ 3 ∷ 1 ∷ []))
+    ∷ (classesLeft 6 5 eightWays reads (3 ∷ 3 ∷ 3 ∷ 3 ∷ 3 ∷ 1 ∷ []))
     ∷ ((chainCost eightWays (1 ∷ 2 ∷ 3 ∷ 4 ∷ 5 ∷ []) ∷ []) reads (51 ∷ []))
     -- node 0 is taken before node 2, so that what 2 sends is seen in the pass after
     ∷ (counts fromTwo reads (3 ∷ 0 ∷ []))

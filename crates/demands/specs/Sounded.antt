@@ -1,5 +1,6 @@
 -- What is claimed of the definitions: soundings on charts that are written out, proved by computing; the program's numbers; and statements of
--- walks, starts, reports, classes and costs. `sounded` in proofs/Soundings.antt proves it.
+-- walks, starts, reports, classes and costs. `sounded` in proofs/Soundings.antt proves it. Nothing here is a rule of the tool: it is what the rules
+-- come to, so that a definition that says something else is found out.
 use mathlib.Core.Path.{_≡_}
 use Prim.Native.Nat.{ℕ, _*_, _≤_, _<_}
 use mathlib.Core.Bool.{true, false, cond}
@@ -10,7 +11,7 @@ use Rattle.cache.specs.Plain.{emptyCache}
 use Rattle.lists.specs.Lists.{Among}
 use Rattle.flow.specs.Walk.{Walk, lastOf}
 use Rattle.analysis.specs.Analysis.{tableIn}
-use Rattle.checker.specs.declared.Checked.the-variants.{Passes}
+use Rattle.checker.specs.declared.Checked.the-variants.{Yes}
 use Rattle.checker.specs.Checker.{checked}
 use Rattle.totals.specs.declared.Totals.the-variants.{Between}
 use Rattle.totals.specs.Totals.{totals}
@@ -23,40 +24,41 @@ use Rattle.classes.specs.Class.{classBy}
 use Rattle.machine.specs.Machine.{plainMachine, Contents, costOf}
 use Rattle.demands.specs.Demand3.{OnWalk, VisitsWithin, AtEachNode}
 use Rattle.demands.specs.Charts.{loopChart, loopReport}
-use Rattle.demands.specs.Soundings.{starred, after, loopPrices, loop, tenTurns}
+use Rattle.demands.specs.Soundings.{starred, after, loopFigures, loop, tenTurns}
 use Rattle.demands.specs.Refused.{damaged, unanalysed}
 use Rattle.demands.specs.Tabled.{unchecked, looser, untotalled, summed}
 use Rattle.demands.specs.Corners.{corners, unknownStart, strangers}
 use Rattle.demands.specs.Shared.{sharedSoundings, shapeSoundings}
 use Rattle.demands.specs.Edges.{leftBehind, edges, elevenSteps, elevenReport}
 use Rattle.demands.specs.Mistakes.{right, mistaken}
+use Rattle.demands.specs.Examples.{examples}
 
 pub record Sounded : Type 0 where
-  -- "Starred soundings are proved of the written definitions as a single list under one claim"
+  -- the starred soundings, all under one claim
   pub starred-hold : Hold starred
   -- the ten turns are a walk of the loop chart from contents that it allows, and within the floors and ceilings of the sounding: demand 3
   -- speaks of them
   pub ten-turns-walk : OnWalk loopChart loop emptyCache tenTurns
-  pub ten-turns-within : VisitsWithin loop loopPrices tenTurns
+  pub ten-turns-within : VisitsWithin loop loopFigures tenTurns
   -- not every node of them is below 2: `AtEachNode` speaks of the last one, node 2, too
   pub last-node : AtEachNode loop (λ n cache. n < 2) tenTurns emptyCache → ⊥
-  -- a walk goes on along any arrow of its last node, however long it is
+  -- a walk goes on along any arrow of its last node, however long it is (rule 5.1)
   pub walk-goes-on : (arrows : ℕ → List ℕ) (entry t : ℕ) (ts : List ℕ)
       → Walk arrows entry ts
       → Among t (arrows (lastOf entry ts))
       → Walk arrows entry (ts ++ t ∷ [])
-  -- where the contents are unknown, they may have blocks that the chart does not have
+  -- where the contents are unknown, they may have blocks that the chart does not have (rule 4.7)
   pub strangers-begin : plainMachine unknownStart .Begins strangers
   -- the loop chart's table passes, and its totals are 2 and 101: what the program `soundings` runs
-  pub loop-checked : checked loopChart (tableIn (after loopChart)) ≡ Passes
-  pub loop-totals : totals loopChart (tableIn (after loopChart)) loopPrices ≡ Between 2 101
-  -- "A chart and its report, whole", and the numbers that the program goes by
+  pub loop-checked : checked loopChart (tableIn (after loopChart)) ≡ Yes
+  pub loop-totals : totals loopChart (tableIn (after loopChart)) loopFigures ≡ Between 2 101
+  -- the loop's report, whole, and the numbers that the program goes by (rules 1.4, 9.6, 13.1 and 13.2)
   pub sample-report : report loopChart ≡ loopReport
   pub longest-chart : longestChart ≡ 2056
   pub input-taken : length (taken (replicate 3000 0)) ≡ 2057
   pub passes-allowed : allPasses ≡ 262401
   pub passes-enough : passesFor 3 1 2 ≡ 16
-  -- how the program ends: which inputs are refused, and the status of a report and of a refusal, written whole and not
+  -- how the program ends (rule 13.3): which inputs are refused, and the status of a report and of a refusal, written whole and not
   pub sample-not-refused : refuses loopChart ≡ false
   pub no-bytes-refused : refuses [] ≡ true
   -- the text says so too, for every input: it begins with the r of "refused" or the n of "nodes"
@@ -76,7 +78,7 @@ pub record Sounded : Type 0 where
   pub left-behind-hold : Hold leftBehind
   pub edges-hold : Hold edges
   pub eleven-report : report elevenSteps ≡ elevenReport
-  -- a class, by any ages
+  -- a class, by any ages (rule 8.1)
   pub hit-called : (limit must may : ℕ) → must < limit → classBy limit must may ≡ 1
   pub miss-called : (limit must may : ℕ) → limit ≤ must → may ≡ limit → classBy limit must may ≡ 2
   pub unsure-called : (limit must may : ℕ) → limit ≤ must → (may ≡ limit → ⊥) → classBy limit must may ≡ 3
@@ -85,10 +87,12 @@ pub record Sounded : Type 0 where
       → costOf chart (k * hitCost) (k * missCost) ts contents ≡ k * costOf chart hitCost missCost ts contents
   -- the reader's: fields, kinds, and the limits
   pub chart-sounded : ChartSounded
-  -- corners that document 01's soundings leave out
+  -- corners that the starred soundings leave out
   pub corners-hold : Hold corners
-  -- "How my spreadsheet would fool you": what is right, and what each mistake reads
+  -- what is right, and what each of five mistakes reads
   pub right-hold : Hold right
   pub mistaken-hold : Hold mistaken
+  -- the examples of docs/RULES.md
+  pub examples-hold : Hold examples
   -- how many soundings each list has: none is dropped unseen
-  pub how-many : map length (chartFields ∷ starred ∷ damaged ∷ unanalysed ∷ unchecked ∷ looser ∷ untotalled ∷ summed ∷ corners ∷ sharedSoundings ∷ shapeSoundings ∷ leftBehind ∷ edges ∷ right ∷ mistaken ∷ []) ≡ 12 ∷ 13 ∷ 26 ∷ 13 ∷ 13 ∷ 10 ∷ 20 ∷ 7 ∷ 16 ∷ 13 ∷ 6 ∷ 11 ∷ 12 ∷ 6 ∷ 6 ∷ []
+  pub how-many : map length (chartFields ∷ starred ∷ damaged ∷ unanalysed ∷ unchecked ∷ looser ∷ untotalled ∷ summed ∷ corners ∷ sharedSoundings ∷ shapeSoundings ∷ leftBehind ∷ edges ∷ right ∷ mistaken ∷ examples ∷ []) ≡ 12 ∷ 13 ∷ 26 ∷ 13 ∷ 13 ∷ 10 ∷ 20 ∷ 7 ∷ 16 ∷ 13 ∷ 6 ∷ 11 ∷ 12 ∷ 6 ∷ 6 ∷ 23 ∷ []

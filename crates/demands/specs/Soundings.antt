@@ -1,5 +1,5 @@
--- The starred soundings of document 01, "Soundings on both sides of the mark", as one list: what the definitions give, and what the
--- paper says.
+-- The starred soundings as one list: what the definitions give, and the numbers that are asked for. Nothing here is a rule of the tool: they are
+-- the examples of sections 5, 6, 8 and 10 of docs/RULES.md.
 use Prim.Native.Nat.{ℕ}
 use mathlib.Core.List.{List, [], _∷_, _++_}
 use lib.ListN.{replicate}
@@ -9,7 +9,7 @@ use Rattle.chart.specs.Header.{headerIn}
 use Rattle.chart.specs.Chart.{Chart, chartIn}
 use Rattle.cache.specs.Ages.{Columns, Ages, touchAges, meetAges}
 use Rattle.cache.specs.Plain.{emptyCache}
-use Rattle.costs.specs.Costs.{Prices}
+use Rattle.costs.specs.Costs.{Figures}
 use Rattle.analysis.specs.Analysis.{Buffers, tableIn, analysed}
 use Rattle.totals.specs.Totals.{totalSays}
 use Rattle.report.specs.Report.{zeroBuffers}
@@ -18,7 +18,7 @@ use Rattle.demands.specs.Charts.{oneSetTwoWaysEmpty, oneSetTwoWays, oneS
 
 -- ---- how each is read off the definitions
 
--- "Four ways, one set, blocks a b c d e" are columns 0 to 4.
+-- So many blocks of one set with four ways.
 abbrev pub fourWays : ℕ → Columns
 fourWays count = record { count = count; key = λ block. 0; mustLimit = λ block. 4; mayLimit = λ block. 4 }
 
@@ -39,26 +39,25 @@ after bytes = analysed bytes allPasses (zeroBuffers (headerIn bytes .nodes) 2) .
 abbrev pub classesFor : List ℕ → List ℕ
 classesFor bytes = after bytes .classes
 
--- "costs 1 and 10, floors 1 1 1, ceilings 1 10 1"
-abbrev pub loopPrices : Prices
-loopPrices =
+-- A hit costs 1 and a miss 10; each node is visited once, but the second up to ten times.
+abbrev pub loopFigures : Figures
+loopFigures =
     record {
-      hitCost = 1;
-      missCost = 10;
+      costs = record { hit = 1; miss = 10 };
       floors = 1 ∷ 1 ∷ 1 ∷ [];
       ceilings = 1 ∷ 10 ∷ 1 ∷ [];
     }
 
 abbrev pub loopTotals : List ℕ
 loopTotals =
-    totalSays loopChart (tableIn (after loopChart)) loopPrices .low
-    ∷ totalSays loopChart (tableIn (after loopChart)) loopPrices .high
+    totalSays loopChart (tableIn (after loopChart)) loopFigures .low
+    ∷ totalSays loopChart (tableIn (after loopChart)) loopFigures .high
     ∷ []
 
 abbrev pub loop : Chart
 loop = chartIn loopChart
 
--- "The walk with ten turns": node 0, then ten times node 1, then node 2.
+-- The walk of ten turns: node 0, then ten times node 1, then node 2.
 abbrev pub tenTurns : List ℕ
 tenTurns = replicate 10 1 ++ 2 ∷ []
 
@@ -69,23 +68,23 @@ row = 0 ∷ 1 ∷ 1 ∷ 3 ∷ 4 ∷ []
 
 abbrev pub starred : List Sounding
 starred =
-    -- must 0 1 1 3 4, touch c; may 0 1 1 3 4, touch c
+    -- rules 6.3 and 6.4: a touch of the third block
     (mustTouched row 2 reads (1 ∷ 1 ∷ 0 ∷ 3 ∷ 4 ∷ []))
     ∷ (mayTouched row 2 reads (1 ∷ 2 ∷ 0 ∷ 3 ∷ 4 ∷ []))
-    -- must 0 1 1 3 4, touch e; may, the same
+    -- and of the fifth, whose age is A
     ∷ (mustTouched row 4 reads (1 ∷ 2 ∷ 2 ∷ 4 ∷ 0 ∷ []))
     ∷ (mayTouched row 4 reads (1 ∷ 2 ∷ 2 ∷ 4 ∷ 0 ∷ []))
-    -- must 1 3 meets 2 4; may
+    -- rule 6.6: two states meet
     ∷ (meeting (1 ∷ 3 ∷ []) (2 ∷ 4 ∷ []) .must reads (2 ∷ 4 ∷ []))
     ∷ (meeting (1 ∷ 3 ∷ []) (2 ∷ 4 ∷ []) .may reads (1 ∷ 3 ∷ []))
-    -- 0x00, 0x10, 0x00: one set, two ways, unknown; empty; one way, unknown
+    -- rule 8.1: reads of 0x00, 0x10 and 0x00 in one set of two ways, unknown and empty, and of one way, unknown
     ∷ (classesFor (straightChart oneSetTwoWays 0x04) reads (3 ∷ 3 ∷ 1 ∷ []))
     ∷ (classesFor (straightChart oneSetTwoWaysEmpty 0x04) reads (2 ∷ 2 ∷ 1 ∷ []))
     ∷ (classesFor (straightChart oneSetOneWay 0x04) reads (3 ∷ 2 ∷ 2 ∷ []))
-    -- 0x00, 0x20, 0x00, unknown: one set of two ways; two sets of one way
+    -- of 0x00, 0x20 and 0x00, unknown: two ways in one set, and one way in each of two
     ∷ (classesFor (straightChart oneSetTwoWays 0x08) reads (3 ∷ 3 ∷ 1 ∷ []))
     ∷ (classesFor (straightChart twoSetsOneWay 0x08) reads (3 ∷ 2 ∷ 2 ∷ []))
-    -- the loop chart's totals, and the walk with ten turns
+    -- rules 10.2 and 10.3: the loop's totals; rule 5.3: what its ten turns cost
     ∷ (loopTotals reads (2 ∷ 101 ∷ []))
     ∷ ((costOf loop 1 10 tenTurns emptyCache ∷ []) reads (20 ∷ []))
     ∷ []

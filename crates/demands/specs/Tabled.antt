@@ -1,5 +1,5 @@
 -- What the checker and the totals answer for tables that are written out: their refusals, each alone and several at once, yes and no, and
--- the sums. Document 01, "Ages and equations" ("It passes exactly if"), "Totals" and "When the tool says no".
+-- the sums. Nothing here is a rule of the tool: it is what rules 7.2 to 7.7, 10.2, 10.3, 11.0, 11.11 and 11.13 to 11.17 come to.
 use Prim.Native.Nat.{ℕ}
 use mathlib.Core.List.{List, [], _∷_}
 use lib.ListN.{set, take}
@@ -7,10 +7,10 @@ use Rattle.lists.specs.Soundings.{Sounding, _reads_}
 use Rattle.tables.specs.Lent.{Lent}
 use Rattle.analysis.specs.Analysis.{tableIn}
 use Rattle.checker.specs.Checker.{checkSays}
-use Rattle.costs.specs.Costs.{Prices}
+use Rattle.costs.specs.Costs.{Figures}
 use Rattle.totals.specs.Totals.{totalSays}
 use Rattle.report.specs.Report.{zeroBuffers}
-use Rattle.demands.specs.Soundings.{after, loopPrices}
+use Rattle.demands.specs.Soundings.{after, loopFigures}
 use Rattle.demands.specs.Charts.{loopChart, straightChart, oneSetTwoWaysEmpty}
 
 -- ---- by the checker: 11, yes and no
@@ -83,47 +83,47 @@ looser =
 -- ---- by the totals: 11 and 13 to 17, and the sums
 
 -- The number, the place, and the two totals.
-abbrev pub totalling : List ℕ → Lent → Prices → List ℕ
-totalling bytes table prices =
-    totalSays bytes table prices .number
-    ∷ totalSays bytes table prices .place
-    ∷ totalSays bytes table prices .low
-    ∷ totalSays bytes table prices .high
+abbrev pub totalling : List ℕ → Lent → Figures → List ℕ
+totalling bytes table figures =
+    totalSays bytes table figures .number
+    ∷ totalSays bytes table figures .place
+    ∷ totalSays bytes table figures .low
+    ∷ totalSays bytes table figures .high
     ∷ []
 
-abbrev pub priced : ℕ → ℕ → List ℕ → List ℕ → Prices
-priced hitCost missCost floors ceilings =
-    record { hitCost = hitCost; missCost = missCost; floors = floors; ceilings = ceilings }
+abbrev pub figuresWith : ℕ → ℕ → List ℕ → List ℕ → Figures
+figuresWith hit miss floors ceilings =
+    record { costs = record { hit = hit; miss = miss }; floors = floors; ceilings = ceilings }
 
 -- What the totals say of the loop chart: each refusal on one side of its mark and on the other, and several at once.
 abbrev pub untotalled : List Sounding
 untotalled =
-    (totalling loopChart loopTable loopPrices reads (0 ∷ 0 ∷ 2 ∷ 101 ∷ []))
+    (totalling loopChart loopTable loopFigures reads (0 ∷ 0 ∷ 2 ∷ 101 ∷ []))
     -- 11: each buffer short alone; 13: a table that the checker fails
-    ∷ (totalling loopChart (cut 2 3 3) loopPrices reads (11 ∷ 0 ∷ 0 ∷ 0 ∷ []))
-    ∷ (totalling loopChart (cut 3 2 3) loopPrices reads (11 ∷ 0 ∷ 0 ∷ 0 ∷ []))
-    ∷ (totalling loopChart (cut 3 3 2) loopPrices reads (11 ∷ 0 ∷ 0 ∷ 0 ∷ []))
-    ∷ (totalling loopChart younger loopPrices reads (13 ∷ 0 ∷ 0 ∷ 0 ∷ []))
+    ∷ (totalling loopChart (cut 2 3 3) loopFigures reads (11 ∷ 0 ∷ 0 ∷ 0 ∷ []))
+    ∷ (totalling loopChart (cut 3 2 3) loopFigures reads (11 ∷ 0 ∷ 0 ∷ 0 ∷ []))
+    ∷ (totalling loopChart (cut 3 3 2) loopFigures reads (11 ∷ 0 ∷ 0 ∷ 0 ∷ []))
+    ∷ (totalling loopChart younger loopFigures reads (13 ∷ 0 ∷ 0 ∷ 0 ∷ []))
     -- 14: a floor or a ceiling too few, or too many
-    ∷ (totalling loopChart loopTable (priced 1 10 (1 ∷ 1 ∷ []) (1 ∷ 10 ∷ 1 ∷ [])) reads (14 ∷ 0 ∷ 0 ∷ 0 ∷ []))
-    ∷ (totalling loopChart loopTable (priced 1 10 (1 ∷ 1 ∷ 1 ∷ 0 ∷ []) (1 ∷ 10 ∷ 1 ∷ [])) reads (14 ∷ 0 ∷ 0 ∷ 0 ∷ []))
-    ∷ (totalling loopChart loopTable (priced 1 10 (1 ∷ 1 ∷ 1 ∷ []) (1 ∷ 10 ∷ [])) reads (14 ∷ 0 ∷ 0 ∷ 0 ∷ []))
-    ∷ (totalling loopChart loopTable (priced 1 10 (1 ∷ 1 ∷ 1 ∷ []) (1 ∷ 10 ∷ 1 ∷ 1 ∷ [])) reads (14 ∷ 0 ∷ 0 ∷ 0 ∷ []))
+    ∷ (totalling loopChart loopTable (figuresWith 1 10 (1 ∷ 1 ∷ []) (1 ∷ 10 ∷ 1 ∷ [])) reads (14 ∷ 0 ∷ 0 ∷ 0 ∷ []))
+    ∷ (totalling loopChart loopTable (figuresWith 1 10 (1 ∷ 1 ∷ 1 ∷ 0 ∷ []) (1 ∷ 10 ∷ 1 ∷ [])) reads (14 ∷ 0 ∷ 0 ∷ 0 ∷ []))
+    ∷ (totalling loopChart loopTable (figuresWith 1 10 (1 ∷ 1 ∷ 1 ∷ []) (1 ∷ 10 ∷ [])) reads (14 ∷ 0 ∷ 0 ∷ 0 ∷ []))
+    ∷ (totalling loopChart loopTable (figuresWith 1 10 (1 ∷ 1 ∷ 1 ∷ []) (1 ∷ 10 ∷ 1 ∷ 1 ∷ [])) reads (14 ∷ 0 ∷ 0 ∷ 0 ∷ []))
     -- 15: a miss below a hit; the same costs are no fault
-    ∷ (totalling loopChart loopTable (priced 11 10 (1 ∷ 1 ∷ 1 ∷ []) (1 ∷ 10 ∷ 1 ∷ [])) reads (15 ∷ 0 ∷ 0 ∷ 0 ∷ []))
-    ∷ (totalling loopChart loopTable (priced 2 2 (1 ∷ 1 ∷ 1 ∷ []) (1 ∷ 10 ∷ 1 ∷ [])) reads (0 ∷ 0 ∷ 4 ∷ 22 ∷ []))
+    ∷ (totalling loopChart loopTable (figuresWith 11 10 (1 ∷ 1 ∷ 1 ∷ []) (1 ∷ 10 ∷ 1 ∷ [])) reads (15 ∷ 0 ∷ 0 ∷ 0 ∷ []))
+    ∷ (totalling loopChart loopTable (figuresWith 2 2 (1 ∷ 1 ∷ 1 ∷ []) (1 ∷ 10 ∷ 1 ∷ [])) reads (0 ∷ 0 ∷ 4 ∷ 22 ∷ []))
     -- 16: floor 2, ceiling 1 at node 2; at nodes 1 and 2, the first is told; a floor at its ceiling is no fault
-    ∷ (totalling loopChart loopTable (priced 1 10 (1 ∷ 1 ∷ 2 ∷ []) (1 ∷ 10 ∷ 1 ∷ [])) reads (16 ∷ 2 ∷ 0 ∷ 0 ∷ []))
-    ∷ (totalling loopChart loopTable (priced 1 10 (1 ∷ 11 ∷ 2 ∷ []) (1 ∷ 10 ∷ 1 ∷ [])) reads (16 ∷ 1 ∷ 0 ∷ 0 ∷ []))
-    ∷ (totalling loopChart loopTable (priced 1 10 (1 ∷ 10 ∷ 1 ∷ []) (1 ∷ 10 ∷ 1 ∷ [])) reads (0 ∷ 0 ∷ 11 ∷ 101 ∷ []))
+    ∷ (totalling loopChart loopTable (figuresWith 1 10 (1 ∷ 1 ∷ 2 ∷ []) (1 ∷ 10 ∷ 1 ∷ [])) reads (16 ∷ 2 ∷ 0 ∷ 0 ∷ []))
+    ∷ (totalling loopChart loopTable (figuresWith 1 10 (1 ∷ 11 ∷ 2 ∷ []) (1 ∷ 10 ∷ 1 ∷ [])) reads (16 ∷ 1 ∷ 0 ∷ 0 ∷ []))
+    ∷ (totalling loopChart loopTable (figuresWith 1 10 (1 ∷ 10 ∷ 1 ∷ []) (1 ∷ 10 ∷ 1 ∷ [])) reads (0 ∷ 0 ∷ 11 ∷ 101 ∷ []))
     -- 17: floor 1 at node 2, which is not marked; floor 0 there is no fault, and its ceiling adds nothing
-    ∷ (totalling endless endlessTable loopPrices reads (17 ∷ 2 ∷ 0 ∷ 0 ∷ []))
-    ∷ (totalling endless endlessTable (priced 1 10 (1 ∷ 1 ∷ 0 ∷ []) (1 ∷ 10 ∷ 1 ∷ [])) reads (0 ∷ 0 ∷ 1 ∷ 100 ∷ []))
-    -- several at once, the first in the table's order: 13 to 16, then 14 to 16, 15 and 16, 16 and 17
-    ∷ (totalling loopChart younger (priced 2 1 (9 ∷ []) (1 ∷ [])) reads (13 ∷ 0 ∷ 0 ∷ 0 ∷ []))
-    ∷ (totalling loopChart loopTable (priced 2 1 (9 ∷ []) (1 ∷ [])) reads (14 ∷ 0 ∷ 0 ∷ 0 ∷ []))
-    ∷ (totalling loopChart loopTable (priced 2 1 (9 ∷ 1 ∷ 1 ∷ []) (1 ∷ 1 ∷ 1 ∷ [])) reads (15 ∷ 0 ∷ 0 ∷ 0 ∷ []))
-    ∷ (totalling endless endlessTable (priced 1 10 (1 ∷ 1 ∷ 2 ∷ []) (1 ∷ 10 ∷ 1 ∷ [])) reads (16 ∷ 2 ∷ 0 ∷ 0 ∷ []))
+    ∷ (totalling endless endlessTable loopFigures reads (17 ∷ 2 ∷ 0 ∷ 0 ∷ []))
+    ∷ (totalling endless endlessTable (figuresWith 1 10 (1 ∷ 1 ∷ 0 ∷ []) (1 ∷ 10 ∷ 1 ∷ [])) reads (0 ∷ 0 ∷ 1 ∷ 100 ∷ []))
+    -- several at once, and the smallest number is given: of 13 to 16, then of 14 to 16, of 15 and 16, of 16 and 17
+    ∷ (totalling loopChart younger (figuresWith 2 1 (9 ∷ []) (1 ∷ [])) reads (13 ∷ 0 ∷ 0 ∷ 0 ∷ []))
+    ∷ (totalling loopChart loopTable (figuresWith 2 1 (9 ∷ []) (1 ∷ [])) reads (14 ∷ 0 ∷ 0 ∷ 0 ∷ []))
+    ∷ (totalling loopChart loopTable (figuresWith 2 1 (9 ∷ 1 ∷ 1 ∷ []) (1 ∷ 1 ∷ 1 ∷ [])) reads (15 ∷ 0 ∷ 0 ∷ 0 ∷ []))
+    ∷ (totalling endless endlessTable (figuresWith 1 10 (1 ∷ 1 ∷ 2 ∷ []) (1 ∷ 10 ∷ 1 ∷ [])) reads (16 ∷ 2 ∷ 0 ∷ 0 ∷ []))
     ∷ []
 
 -- The loop chart whose entry has no arrow: nodes 1 and 2 are not reached.
@@ -133,7 +133,7 @@ stopped = set (set loopChart 12 0x00) 13 0x00
 abbrev pub stoppedTable : Lent
 stoppedTable = three (2 ∷ 0 ∷ 0 ∷ []) (2 ∷ 0 ∷ 0 ∷ []) (1 ∷ 0 ∷ 0 ∷ [])
 
--- "0x00, 0x10, 0x00, one set, two ways", empty: classes 2 2 1.
+-- Reads of 0x00, 0x10 and 0x00, two ways in one set, empty: two misses and a hit.
 abbrev pub missesChart : List ℕ
 missesChart = straightChart oneSetTwoWaysEmpty 0x04
 
@@ -144,12 +144,12 @@ missesTable = record { must = 2 ∷ 2 ∷ 0 ∷ 2 ∷ 1 ∷ 0 ∷ []; may = 2 �
 abbrev pub summed : List Sounding
 summed =
     -- misses and a hit, a hit cost above 1, a table that is looser, one with something behind it
-    (totalling missesChart missesTable (priced 3 10 (1 ∷ 1 ∷ 1 ∷ []) (2 ∷ 2 ∷ 2 ∷ [])) reads (0 ∷ 0 ∷ 23 ∷ 46 ∷ []))
-    ∷ (totalling loopChart loopTable (priced 3 10 (1 ∷ 1 ∷ 1 ∷ []) (1 ∷ 10 ∷ 1 ∷ [])) reads (0 ∷ 0 ∷ 6 ∷ 103 ∷ []))
-    ∷ (totalling loopChart (three (2 ∷ 2 ∷ 2 ∷ []) (0 ∷ 0 ∷ 0 ∷ []) (1 ∷ 1 ∷ 1 ∷ [])) loopPrices reads (0 ∷ 0 ∷ 2 ∷ 110 ∷ []))
-    ∷ (totalling loopChart (three (2 ∷ 2 ∷ 0 ∷ 9 ∷ []) (2 ∷ 0 ∷ 0 ∷ 9 ∷ []) (1 ∷ 1 ∷ 1 ∷ 9 ∷ [])) loopPrices reads (0 ∷ 0 ∷ 2 ∷ 101 ∷ []))
+    (totalling missesChart missesTable (figuresWith 3 10 (1 ∷ 1 ∷ 1 ∷ []) (2 ∷ 2 ∷ 2 ∷ [])) reads (0 ∷ 0 ∷ 23 ∷ 46 ∷ []))
+    ∷ (totalling loopChart loopTable (figuresWith 3 10 (1 ∷ 1 ∷ 1 ∷ []) (1 ∷ 10 ∷ 1 ∷ [])) reads (0 ∷ 0 ∷ 6 ∷ 103 ∷ []))
+    ∷ (totalling loopChart (three (2 ∷ 2 ∷ 2 ∷ []) (0 ∷ 0 ∷ 0 ∷ []) (1 ∷ 1 ∷ 1 ∷ [])) loopFigures reads (0 ∷ 0 ∷ 2 ∷ 110 ∷ []))
+    ∷ (totalling loopChart (three (2 ∷ 2 ∷ 0 ∷ 9 ∷ []) (2 ∷ 0 ∷ 0 ∷ 9 ∷ []) (1 ∷ 1 ∷ 1 ∷ 9 ∷ [])) loopFigures reads (0 ∷ 0 ∷ 2 ∷ 101 ∷ []))
     -- 17 at the first of two unmarked nodes; at the second, where the first has no floor; and what is not reached adds nothing
-    ∷ (totalling stopped stoppedTable loopPrices reads (17 ∷ 1 ∷ 0 ∷ 0 ∷ []))
-    ∷ (totalling stopped stoppedTable (priced 1 10 (1 ∷ 0 ∷ 1 ∷ []) (1 ∷ 10 ∷ 1 ∷ [])) reads (17 ∷ 2 ∷ 0 ∷ 0 ∷ []))
-    ∷ (totalling stopped stoppedTable (priced 1 10 (1 ∷ 0 ∷ 0 ∷ []) (1 ∷ 10 ∷ 5 ∷ [])) reads (0 ∷ 0 ∷ 0 ∷ 0 ∷ []))
+    ∷ (totalling stopped stoppedTable loopFigures reads (17 ∷ 1 ∷ 0 ∷ 0 ∷ []))
+    ∷ (totalling stopped stoppedTable (figuresWith 1 10 (1 ∷ 0 ∷ 1 ∷ []) (1 ∷ 10 ∷ 1 ∷ [])) reads (17 ∷ 2 ∷ 0 ∷ 0 ∷ []))
+    ∷ (totalling stopped stoppedTable (figuresWith 1 10 (1 ∷ 0 ∷ 0 ∷ []) (1 ∷ 10 ∷ 5 ∷ [])) reads (0 ∷ 0 ∷ 0 ∷ 0 ∷ []))
     ∷ []

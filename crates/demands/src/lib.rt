@@ -1,1 +1,1 @@
-// The three demands, stated whole, and document 01's soundings. Definitions and proofs, no code.
+// The three demands, stated whole, and the soundings. Definitions and proofs: there is no function here, and nothing to call.

@@ -23,7 +23,7 @@ use Rattle.chart.specs.declared.records.Record.the-variants as what
 use Rattle.chart.specs.Geometry.{mostNodes, mostBlocks, setOf}
 use Rattle.chart.specs.Record.{touchesOf}
 use Rattle.chart.specs.Chart.{Chart, accepted, refused, readChart, chartIn, blockCount, nodeAt}
-use Rattle.chart.specs.Inner.{Found}
+use Rattle.chart.specs.Inner.{AcceptedAs}
 use Rattle.chart.proofs.Accepted.{accepted-chart, accepted-nodes, accepted-few}
 use Rattle.chart.proofs.Answers.{found-blocks}
 use Rattle.refusals.specs.declared.Refusal.{Refusal}
@@ -32,7 +32,7 @@ use Rattle.ages.specs.Charted.{setAt, keyAt, columnTouch, nodePlan, isEmpty, pl
 use Rattle.ages.proofs.Charting.{chart-sound}
 use Rattle.plan.specs.Listed.{nodesIn, blocksIn, nodePlace, nodeIn, touchesBy, planNode, planIn, Drawn}
 use Rattle.drawing.specs.Columns.{alike, ColumnsDrawn}
-use Rattle.drawing.specs.Nodes.{headNumbers, workBy, nodeBy, NodesDrawn}
+use Rattle.drawing.specs.Nodes.{headNumbers, plannedBy, nodeBy, NodesDrawn}
 use Rattle.drawing.specs.Drawing.{Draws}
 
 -- What is stored, place by place, of a header and an array of so many blocks.
@@ -66,7 +66,7 @@ module _ (bytes : List ℕ) (chart : Chart) (read : readChart bytes ≡ accepted
       (λ e. eqb (setAt chart e) (setAt chart k))
       (λ e l. let here : e < blockCount chart = omega arith in λ i. eqb (set-is e here i) (set-is k h i))
 
-  touches-are : (what : Record) → touchesBy (workBy (chart .header .geometry) (chart .blocks) what) ≡ map (columnTouch chart) (touchesOf (chart .header .geometry) what)
+  touches-are : (what : Record) → touchesBy (plannedBy (chart .header .geometry) (chart .blocks) what) ≡ map (columnTouch chart) (touchesOf (chart .header .geometry) what)
   unfolding touchesOf
   touches-are what.Step = refl
   touches-are (what.Reference reference) = refl
@@ -112,7 +112,7 @@ module _ (bytes : List ℕ) (chart : Chart) (read : readChart bytes ≡ accepted
 
 -- ---- from what a reader finds and what the functions store
 
-module _ (bytes : List ℕ) (header : Header) (count : ℕ) (array : List ℕ) (found : Found bytes header count array) (sets columns start headed plan : List ℕ)
+module _ (bytes : List ℕ) (header : Header) (count : ℕ) (array : List ℕ) (found : AcceptedAs bytes header count array) (sets columns start headed plan : List ℕ)
     (of-sets : sets ≡ patch (replicate mostBlocks 0) 0 count (λ k. setOf (header .geometry) (getD array k 0)))
     (of-columns : ColumnsDrawn sets (header .geometry .ways) count columns)
     (long : 4 ≤ length start)
@@ -132,7 +132,7 @@ module _ (bytes : List ℕ) (header : Header) (count : ℕ) (array : List ℕ) (
             (λ e l. let here : e < count = omega arith in λ i. eqb (set-found e here i) (set-found k h i));
         must-limit = of-columns .must-limits;
         may-limit = of-columns .may-limits;
-        head = λ k h. of-nodes .head-kept k h ∙ ap (λ (l : List ℕ). getD l k 0) of-head ∙ patch-in0 start 4 (λ j. getD (headNumbers header count) j 0) k long h;
+        head = λ k h. of-nodes .head-stays k h ∙ ap (λ (l : List ℕ). getD l k 0) of-head ∙ patch-in0 start 4 (λ j. getD (headNumbers header count) j 0) k long h;
         node = of-nodes .nodes;
       }
 

@@ -16,12 +16,12 @@ use Rattle.chart.specs.declared.records.Record.{Record}
 use Rattle.chart.specs.declared.records.Record.the-variants as what
 use Rattle.chart.specs.Geometry.{mostBlocks, blockOf}
 use Rattle.chart.specs.Chart.{nodeAt}
-use Rattle.plan.specs.declared.Work.{Work}
-use Rattle.plan.specs.declared.Work.the-variants.{Step, Reference}
+use Rattle.plan.specs.declared.PlannedRecord.{PlannedRecord}
+use Rattle.plan.specs.declared.PlannedRecord.the-variants.{Step, Reference}
 use Rattle.plan.specs.declared.PlannedNode.{PlannedNode}
-use Rattle.plan.specs.Listed.{nodePlace, workOf, nodeFrom, nodeIn}
+use Rattle.plan.specs.Listed.{nodePlace, plannedOf, nodeFrom, nodeIn}
 use Rattle.drawing.specs.Columns.{firstAlike, ColumnsDrawn}
-use Rattle.drawing.specs.Nodes.{kindNumber, columnNumber, deedNumber, nodeNumbers, ColumnNarrow, Narrow, workBy, nodeBy, NodesDrawn}
+use Rattle.drawing.specs.Nodes.{kindNumber, columnNumber, deedNumber, nodeNumbers, ColumnNarrow, Narrow, plannedBy, nodeBy, NodesDrawn}
 
 -- ---- columns
 
@@ -44,8 +44,8 @@ module _ (l : List ℕ) (k key must may : ℕ) (few : k < mostBlocks) (long : 3 
   may-stored =
       getD-set-same (set (set l k key) (mostBlocks + k) must) (2 * mostBlocks + k) may 0 (omega (arith, length-set (set l k key) (mostBlocks + k) must, length-set l k key))
 
-  others-kept : (j : ℕ) → (j ≡ k → ⊥) → (j ≡ mostBlocks + k → ⊥) → (j ≡ 2 * mostBlocks + k → ⊥) → getD stored j 0 ≡ getD l j 0
-  others-kept j one two three =
+  others-stay : (j : ℕ) → (j ≡ k → ⊥) → (j ≡ mostBlocks + k → ⊥) → (j ≡ 2 * mostBlocks + k → ⊥) → getD stored j 0 ≡ getD l j 0
+  others-stay j one two three =
       getD-set-other (set (set l k key) (mostBlocks + k) must) (2 * mostBlocks + k) j may 0 three
       ∙ getD-set-other (set l k key) (mostBlocks + k) j must 0 two
       ∙ getD-set-other l k j key 0 one
@@ -54,11 +54,11 @@ pub columns-turn : (sets : List ℕ) (limit k : ℕ) (l : List ℕ) (key : ℕ) 
     → ColumnsDrawn sets limit k l → key ≡ firstAlike sets k → ColumnsDrawn sets limit (k + 1) (set (set (set l k key) (mostBlocks + k) limit) (2 * mostBlocks + k) limit)
 columns-turn sets limit k l key few long drawn is =
     let after : List ℕ = stored l k key limit limit few long in
-    let kept = others-kept l k key limit limit few long in
+    let others = others-stay l k key limit limit few long in
     record {
-      keys = below-more (λ j. getD after j 0 ≡ firstAlike sets j) k (λ j h. kept j (λ e. omega arith) (λ e. omega arith) (λ e. omega arith) ∙ drawn .keys j h) (key-stored l k key limit limit few long ∙ is);
-      must-limits = below-more (λ j. getD after (mostBlocks + j) 0 ≡ limit) k (λ j h. kept (mostBlocks + j) (λ e. omega arith) (λ e. omega arith) (λ e. omega arith) ∙ drawn .must-limits j h) (must-stored l k key limit limit few long);
-      may-limits = below-more (λ j. getD after (2 * mostBlocks + j) 0 ≡ limit) k (λ j h. kept (2 * mostBlocks + j) (λ e. omega arith) (λ e. omega arith) (λ e. omega arith) ∙ drawn .may-limits j h) (may-stored l k key limit limit few long);
+      keys = below-more (λ j. getD after j 0 ≡ firstAlike sets j) k (λ j h. others j (λ e. omega arith) (λ e. omega arith) (λ e. omega arith) ∙ drawn .keys j h) (key-stored l k key limit limit few long ∙ is);
+      must-limits = below-more (λ j. getD after (mostBlocks + j) 0 ≡ limit) k (λ j h. others (mostBlocks + j) (λ e. omega arith) (λ e. omega arith) (λ e. omega arith) ∙ drawn .must-limits j h) (must-stored l k key limit limit few long);
+      may-limits = below-more (λ j. getD after (2 * mostBlocks + j) 0 ≡ limit) k (λ j h. others (2 * mostBlocks + j) (λ e. omega arith) (λ e. omega arith) (λ e. omega arith) ∙ drawn .may-limits j h) (may-stored l k key limit limit few long);
     }
 
 -- ---- nodes
@@ -70,15 +70,15 @@ patch-behind l base (suc n) f k h =
     getD-set-other (patch l base n f) (base + n) k (f n) 0 (λ e. omega arith) ∙ patch-behind l base n f k h
 
 -- A record, read back from its numbers.
-work-back : (work : Work) → workOf (kindNumber work) (columnNumber work) ≡ work
-work-back Step = refl
-work-back (Reference touch) = go (touch .write)
+planned-back : (planned : PlannedRecord) → plannedOf (kindNumber planned) (columnNumber planned) ≡ planned
+planned-back Step = refl
+planned-back (Reference touch) = go (touch .write)
   where
-    go : (write : Bool) → workOf (cond write 2 1) (touch .column) ≡ Reference (record { column = touch .column; write = write })
+    go : (write : Bool) → plannedOf (cond write 2 1) (touch .column) ≡ Reference (record { column = touch .column; write = write })
     go true = refl
     go false = refl
 
-kind-few : (work : Work) → kindNumber work < 4
+kind-few : (planned : PlannedRecord) → kindNumber planned < 4
 kind-few Step = omega arith
 kind-few (Reference touch) = go (touch .write)
   where
@@ -95,37 +95,37 @@ module _ (n : ℕ) (node : PlannedNode) (plan after : List ℕ) (narrow : Narrow
   number : (k : ℕ) → k < 3 → getD after (nodePlace n + k) 0 ≡ getD (nodeNumbers node) k 0
   number k h = ap (λ (l : List ℕ). getD l (nodePlace n + k) 0) put ∙ patch-in plan (nodePlace n) 3 (λ j. getD (nodeNumbers node) j 0) k room h
 
-  deed : getD after (nodePlace n) 0 ≡ deedNumber (kindNumber (node .work)) (node .targets .outs) (columnNumber (node .work))
+  deed : getD after (nodePlace n) 0 ≡ deedNumber (kindNumber (node .what)) (node .targets .outs) (columnNumber (node .what))
   deed = let here : nodePlace n + 0 ≡ nodePlace n = omega arith in rw here at (number 0 (omega arith))
 
   node-back : nodeIn after n ≡ node
   node-back =
-      let kind : ℕ = kindNumber (node .work) in
+      let kind : ℕ = kindNumber (node .what) in
       let outs : ℕ = node .targets .outs in
-      let column : ℕ = columnNumber (node .work) in
-      let back = deed-back kind outs column (kind-few (node .work)) (narrow .outs) in
+      let column : ℕ = columnNumber (node .what) in
+      let back = deed-back kind outs column (kind-few (node .what)) (narrow .outs) in
       (λ i. nodeFrom (deed i) (number 1 (omega arith) i) (number 2 (omega arith) i))
       ∙ (λ i. record {
-        work = ((λ j. workOf (back .0 j) (back .1 .1 j)) ∙ work-back (node .work)) i;
+        what = ((λ j. plannedOf (back .0 j) (back .1 .1 j)) ∙ planned-back (node .what)) i;
         targets = record { outs = back .1 .0 i; first = node .targets .first; second = node .targets .second };
       })
 
-  before-kept : (k : ℕ) → k < nodePlace n → getD after k 0 ≡ getD plan k 0
-  before-kept k h = ap (λ (l : List ℕ). getD l k 0) put ∙ patch-behind plan (nodePlace n) 3 (λ j. getD (nodeNumbers node) j 0) k h
+  before-stays : (k : ℕ) → k < nodePlace n → getD after k 0 ≡ getD plan k 0
+  before-stays k h = ap (λ (l : List ℕ). getD l k 0) put ∙ patch-behind plan (nodePlace n) 3 (λ j. getD (nodeNumbers node) j 0) k h
 
-  node-kept : (m : ℕ) → m < n → nodeIn after m ≡ nodeIn plan m
-  node-kept m h =
-      λ i. nodeFrom (before-kept (nodePlace m) (omega arith) i) (before-kept (nodePlace m + 1) (omega arith) i) (before-kept (nodePlace m + 2) (omega arith) i)
+  node-stays : (m : ℕ) → m < n → nodeIn after m ≡ nodeIn plan m
+  node-stays m h =
+      λ i. nodeFrom (before-stays (nodePlace m) (omega arith) i) (before-stays (nodePlace m + 1) (omega arith) i) (before-stays (nodePlace m + 2) (omega arith) i)
 
   pub nodes-turn : (each : ℕ → PlannedNode) (start : List ℕ) → NodesDrawn n each start plan → node ≡ each n → NodesDrawn (n + 1) each start after
   nodes-turn each start drawn is =
       record {
-        head-kept = λ k h. before-kept k (omega arith) ∙ drawn .head-kept k h;
-        nodes = below-more (λ m. nodeIn after m ≡ each m) n (λ m h. node-kept m h ∙ drawn .nodes m h) (node-back ∙ is);
+        head-stays = λ k h. before-stays k (omega arith) ∙ drawn .head-stays k h;
+        nodes = below-more (λ m. nodeIn after m ≡ each m) n (λ m h. node-stays m h ∙ drawn .nodes m h) (node-back ∙ is);
       }
 
 pub nodes-none : (each : ℕ → PlannedNode) (plan : List ℕ) → NodesDrawn 0 each plan plan
-nodes-none each plan = record { head-kept = λ k h. refl; nodes = λ n h. absurd (omega arith) }
+nodes-none each plan = record { head-stays = λ k h. refl; nodes = λ n h. absurd (omega arith) }
 
 pub columns-none : (sets : List ℕ) (limit : ℕ) (columns : List ℕ) → ColumnsDrawn sets limit 0 columns
 columns-none sets limit columns =
@@ -137,20 +137,20 @@ columns-none sets limit columns =
 
 -- ---- what a chart's node does
 
--- A chart's node as the functions work it out: with its record's work, and the arrows as they are.
-module _ (geometry : Geometry) (blocks bytes : List ℕ) (n : ℕ) (node : Node) (work : Work) (read : node ≡ nodeAt bytes n) (worked : work ≡ workBy geometry blocks (node .what)) where
-  pub node-planned : record { work = work; targets = node .targets } ≡ nodeBy geometry blocks (nodeAt bytes n)
-  node-planned = (λ i. record { work = worked i; targets = node .targets }) ∙ ap (nodeBy geometry blocks) read
+-- A chart's node as the functions work it out: with its record as planned, and the arrows as they are.
+module _ (geometry : Geometry) (blocks bytes : List ℕ) (n : ℕ) (node : Node) (planned : PlannedRecord) (read : node ≡ nodeAt bytes n) (planned-is : planned ≡ plannedBy geometry blocks (node .what)) where
+  pub node-planned : record { what = planned; targets = node .targets } ≡ nodeBy geometry blocks (nodeAt bytes n)
+  node-planned = (λ i. record { what = planned-is i; targets = node .targets }) ∙ ap (nodeBy geometry blocks) read
 
-  work-narrow : length blocks ≤ mostBlocks → (what : Record) → ColumnNarrow (workBy geometry blocks what)
-  work-narrow few what.Step = tt
-  work-narrow few (what.Reference reference) = omega (arith, place-le (blockOf geometry (reference .address)) blocks)
+  planned-narrow : length blocks ≤ mostBlocks → (what : Record) → ColumnNarrow (plannedBy geometry blocks what)
+  planned-narrow few what.Step = tt
+  planned-narrow few (what.Reference reference) = omega (arith, place-le (blockOf geometry (reference .address)) blocks)
 
-  pub node-narrow : length blocks ≤ mostBlocks → Narrow (record { work = work; targets = node .targets })
+  pub node-narrow : length blocks ≤ mostBlocks → Narrow (record { what = planned; targets = node .targets })
   node-narrow few =
       subst Narrow (sym node-planned)
       (record {
-        column = work-narrow few (nodeAt bytes n .what);
+        column = planned-narrow few (nodeAt bytes n .what);
         outs = omega arith;
         first = omega arith;
         second = omega arith;

@@ -1,4 +1,5 @@
--- What inner functions promise of the columns that they draw. Nothing here is document 01's.
+-- The keys and limits that inner functions draw into the columns of a plan. Nothing here is a rule of the tool: `Draws` (Drawing.antt) holds
+-- them to the chart's plan, whose keys go by the sets of rule 3.2. A key is the first column of the same set, so that it fits a byte.
 use Prim.Native.Nat.{ℕ, _+_, _*_, _<_}
 use mathlib.Core.Bool.{Bool}
 use mathlib.Core.List.{List}

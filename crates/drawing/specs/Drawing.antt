@@ -1,4 +1,5 @@
--- What two lists hold after a chart was drawn into them. Nothing here is document 01's.
+-- What two lists hold after a chart was drawn into them. Nothing here is a rule of the tool: inner functions promise it to those that go by a plan.
+-- Of bytes that are no chart nothing is said.
 use Prim.Native.Nat.{ℕ}
 use mathlib.Core.List.{List}
 use mathlib.Core.Path.{_≡_}

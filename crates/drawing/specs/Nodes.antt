@@ -1,5 +1,5 @@
--- The numbers of a plan's head and nodes as they are stored, and what inner functions promise of them. `nodeIn` of the crate `plan` reads
--- a node's numbers back. Nothing here is document 01's.
+-- The numbers of a plan's head and nodes as they are stored, which `nodeIn` of the crate `plan` reads back, and what inner functions promise of
+-- them. Rule 2.2, in the number of a kind; the rest is no rule's. A block is known by its place in the list of blocks.
 use Prim.Native.Nat.{ℕ, _+_, _*_, _<_, _^_}
 use mathlib.Core.Bool.{cond}
 use mathlib.Core.List.{List, [], _∷_}
@@ -13,22 +13,24 @@ use Rattle.chart.specs.declared.records.Record.{Record}
 use Rattle.chart.specs.declared.records.Record.the-variants as what
 use Rattle.chart.specs.Geometry.{blockOf}
 use Rattle.chart.specs.Header.{startCode}
-use Rattle.plan.specs.declared.Work.{Work}
-use Rattle.plan.specs.declared.Work.the-variants.{Step, Reference}
+use Rattle.plan.specs.declared.PlannedRecord.{PlannedRecord}
+use Rattle.plan.specs.declared.PlannedRecord.the-variants.{Step, Reference}
 use Rattle.plan.specs.declared.PlannedNode.{PlannedNode}
-use Rattle.plan.specs.Listed.{WorkIn, nodeIn}
+use Rattle.plan.specs.Listed.{RecordIn, nodeIn}
 
 -- ---- the numbers
 
+-- N, B, the entry and the start's code.
 abbrev pub headNumbers : Header → ℕ → List ℕ
 headNumbers header blocks = header .nodes ∷ blocks ∷ header .entry ∷ startCode (header .start) ∷ []
 
--- "0 bare step, 1 read, 2 write"
-abbrev pub kindNumber : Work → ℕ
+-- Rule 2.2: the number of a kind.
+abbrev pub kindNumber : PlannedRecord → ℕ
 kindNumber Step = 0
 kindNumber (Reference touch) = cond (touch .write) 2 1
 
-abbrev pub columnNumber : Work → ℕ
+-- 0 for a bare step, which has no column.
+abbrev pub columnNumber : PlannedRecord → ℕ
 columnNumber Step = 0
 columnNumber (Reference touch) = touch .column
 
@@ -36,19 +38,20 @@ columnNumber (Reference touch) = touch .column
 abbrev pub deedNumber : ℕ → ℕ → ℕ → ℕ
 deedNumber kind outs column = kind + 4 * outs + 16 * column
 
+-- The three numbers of a node.
 abbrev pub nodeNumbers : PlannedNode → List ℕ
 nodeNumbers node =
-    deedNumber (kindNumber (node .work)) (node .targets .outs) (columnNumber (node .work))
+    deedNumber (kindNumber (node .what)) (node .targets .outs) (columnNumber (node .what))
     ∷ node .targets .first
     ∷ node .targets .second
     ∷ []
 
 -- The numbers of a node fit the list's type.
-abbrev pub ColumnNarrow : Work → Type 0
-ColumnNarrow work = WorkIn (2 ^ 8) work
+abbrev pub ColumnNarrow : PlannedRecord → Type 0
+ColumnNarrow planned = RecordIn (2 ^ 8) planned
 
 pub record Narrow (node : PlannedNode) : Type 0 where
-  pub column : ColumnNarrow (node .work)
+  pub column : ColumnNarrow (node .what)
   pub outs : node .targets .outs < 4
   pub first : node .targets .first < 2 ^ 16
   pub second : node .targets .second < 2 ^ 16
@@ -56,15 +59,16 @@ pub record Narrow (node : PlannedNode) : Type 0 where
 -- ---- what a chart's node does
 
 -- A record's block is known by its place in the list of blocks.
-abbrev pub workBy : Geometry → List ℕ → Record → Work
-workBy geometry blocks what.Step = Step
-workBy geometry blocks (what.Reference reference) =
+abbrev pub plannedBy : Geometry → List ℕ → Record → PlannedRecord
+plannedBy geometry blocks what.Step = Step
+plannedBy geometry blocks (what.Reference reference) =
     Reference (record { column = placeIn blocks (blockOf geometry (reference .address)); write = reference .write })
 
+-- A node of a chart as it is planned.
 abbrev pub nodeBy : Geometry → List ℕ → Node → PlannedNode
-nodeBy geometry blocks node = record { work = workBy geometry blocks (node .what); targets = node .targets }
+nodeBy geometry blocks node = record { what = plannedBy geometry blocks (node .what); targets = node .targets }
 
 -- The first `count` nodes stand in a list, and its head is as it was.
 pub record NodesDrawn (count : ℕ) (node : ℕ → PlannedNode) (before after : List ℕ) : Type 0 where
-  pub head-kept : (k : ℕ) → k < 4 → getD after k 0 ≡ getD before k 0
+  pub head-stays : (k : ℕ) → k < 4 → getD after k 0 ≡ getD before k 0
   pub nodes : (n : ℕ) → n < count → nodeIn after n ≡ node n

@@ -1,4 +1,5 @@
-// The head of a plan.
+// Stores the head of a plan. Callers keep that there is room, and that the header and the blocks are within the limits of a chart. Nothing is
+// refused here.
 ghost use mathlib.Core.Path.{_≡_};
 ghost use Prim.Native.Nat.{_≤_, _<_};
 ghost use lib.ListN.{length, getD};
@@ -7,7 +8,7 @@ ghost use Rattle.chart.specs.Geometry.{mostNodes, mostBlocks};
 ghost use Rattle.drawing.specs.Nodes.{headNumbers};
 use chart::Header;
 
-// N, B, the entry and the start's code.
+// Stores N, B, the entry and the start's code in the first four places, and nothing elsewhere.
 pub(crate) fn put_head(plan: &mut [u16], header: Header, count: usize)
     requires { ⌜ 4 ≤ length (now plan) ⌝ }
     requires { ⌜ (header .nodes ≤ mostNodes) × ((header .entry < header .nodes) × (count ≤ mostBlocks)) ⌝ }

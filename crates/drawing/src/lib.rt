@@ -1,4 +1,5 @@
-// From a chart's bytes to its plan, in two flat lists that the caller lends.
+// From any bytes to the plan of their chart, in two flat lists that the caller lends. The answer is the reader's, refusals 1 to 10 too; after a
+// refusal nothing is said of the lists. Callers lend room for the largest plan.
 mod columns;
 mod head;
 mod nodes;
@@ -8,7 +9,7 @@ ghost use Prim.Native.Nat.{_*_, _≤_};
 ghost use lib.ListN.{length};
 ghost use Rattle.chart.specs.Geometry.{mostNodes, mostBlocks};
 ghost use Rattle.chart.specs.Reading.{reading};
-ghost use Rattle.chart.specs.Inner.{Found};
+ghost use Rattle.chart.specs.Inner.{AcceptedAs};
 ghost use Rattle.plan.specs.Listed.{nodePlace};
 ghost use Rattle.drawing.specs.Drawing.{Draws};
 use crate::columns::put_columns;
@@ -19,7 +20,7 @@ use chart::Header;
 use chart::Reading;
 use chart::Verdict;
 
-// Leaves the plan of an accepted chart, with what a reader found of it, in the two lists.
+// Leaves the plan of an accepted chart in the two lists, by what the reader has found.
 fn draw_chart(
     chart: &[u8],
     header: Header,
@@ -28,7 +29,7 @@ fn draw_chart(
     columns: &mut [u8],
     plan: &mut [u16],
 )
-    requires { ⌜ Found (now chart) header count (now blocks) ⌝ }
+    requires { ⌜ AcceptedAs (now chart) header count (now blocks) ⌝ }
     requires { ⌜ (3 * mostBlocks ≤ length (now columns)) × (nodePlace mostNodes ≤ length (now plan)) ⌝ }
     ensures { λ _. ⌜ Draws (now (chart .entry)) (now (columns .exit)) (now (plan .exit)) ⌝ }
 {
@@ -39,7 +40,7 @@ fn draw_chart(
     draw_nodes(plan, chart, header, blocks, count);
 }
 
-// What any bytes read as; where that is a chart, its plan is left in the two lists. Else what they hold is not said.
+// Answers what `chart::read` does, and leaves the plan of an accepted chart in the two lists. After a refusal nothing is said of them.
 pub fn draw(chart: &[u8], columns: &mut [u8], plan: &mut [u16]) -> Reading
     requires { ⌜ (3 * mostBlocks ≤ length (now columns)) × (nodePlace mostNodes ≤ length (now plan)) ⌝ }
     ensures { λ r. ⌜ r ≡ reading (now (chart .entry)) ⌝ }

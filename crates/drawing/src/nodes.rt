@@ -1,4 +1,5 @@
-// What each node does, worked out and laid into a plan.
+// Works out what each node does, a block known by its place in the list of blocks, and stores it in a plan. Callers keep that the records are
+// there, that the blocks ascend, and that there is room. Nothing is refused here.
 ghost use mathlib.Core.Path.{_≡_};
 ghost use Prim.Native.Nat.{_+_, _^_, _≤_, _<_};
 ghost use lib.ListN.{length, getD, take};
@@ -8,20 +9,20 @@ ghost use Rattle.chart.specs.Layout.{chartLength};
 ghost use Rattle.chart.specs.Geometry.{mostBlocks};
 ghost use Rattle.chart.specs.Chart.{nodeAt};
 ghost use Rattle.plan.specs.Listed.{nodePlace};
-ghost use Rattle.drawing.specs.Nodes.{kindNumber, columnNumber, nodeNumbers, Narrow, ColumnNarrow, workBy, nodeBy, NodesDrawn};
+ghost use Rattle.drawing.specs.Nodes.{kindNumber, columnNumber, nodeNumbers, Narrow, ColumnNarrow, plannedBy, nodeBy, NodesDrawn};
 use ages::ColumnTouch;
 use blocks::place_in;
 use chart::Geometry;
 use chart::Header;
 use chart::Record;
 use plan::PlannedNode;
-use plan::Work;
+use plan::PlannedRecord;
 
-// 0 for a bare step, 1 for a read, 2 for a write.
-fn kind_number(work: Work) -> u16
-    ensures { λ r. ⌜ (r ≡ kindNumber work) × (r ≤ 2) ⌝ }
+// The number of a kind (rule 2.2).
+fn kind_number(planned: PlannedRecord) -> u16
+    ensures { λ r. ⌜ (r ≡ kindNumber planned) × (r ≤ 2) ⌝ }
 {
-    let Work::Reference(touch) = work else {
+    let PlannedRecord::Reference(touch) = planned else {
         return 0;
     };
     let write = touch.write;
@@ -29,26 +30,26 @@ fn kind_number(work: Work) -> u16
 }
 
 // The column of a reference, 0 for a bare step.
-fn column_number(work: Work) -> u16
-    requires { ⌜ ColumnNarrow work ⌝ }
-    ensures { λ r. ⌜ (r ≡ columnNumber work) × (r < 2 ^ 8) ⌝ }
+fn column_number(planned: PlannedRecord) -> u16
+    requires { ⌜ ColumnNarrow planned ⌝ }
+    ensures { λ r. ⌜ (r ≡ columnNumber planned) × (r < 2 ^ 8) ⌝ }
 {
-    let Work::Reference(touch) = work else {
+    let PlannedRecord::Reference(touch) = planned else {
         return 0;
     };
     touch.column as u16
 }
 
-// Stores the three numbers of node n.
+// Stores the three numbers of node n, and nothing elsewhere.
 fn put_node(plan: &mut [u16], n: usize, node: PlannedNode)
     requires { ⌜ nodePlace n + 3 ≤ length (now plan) ⌝ }
     requires { ⌜ Narrow node ⌝ }
     ensures { λ _. ⌜ now (plan .exit) ≡ patch (now (plan .entry)) (nodePlace n) 3 (λ k. getD (nodeNumbers node) k 0) ⌝ }
 {
-    let work = node.work;
+    let planned = node.what;
     let targets = node.targets;
-    let kind = kind_number(work);
-    let column = column_number(work);
+    let kind = kind_number(planned);
+    let column = column_number(planned);
     let place = plan::HEAD + plan::NODE * n;
     plan[place] = kind + 4 * targets.outs as u16 + 16 * column;
     plan[place + 1] = targets.first as u16;
@@ -56,23 +57,23 @@ fn put_node(plan: &mut [u16], n: usize, node: PlannedNode)
 }
 
 // What a record does to the columns of the first `count` blocks.
-fn work_of(geometry: Geometry, blocks: &[u32], count: usize, what: Record) -> Work
+fn planned_of(geometry: Geometry, blocks: &[u32], count: usize, what: Record) -> PlannedRecord
     requires { ⌜ count ≤ length (now blocks) ⌝ }
     requires { ⌜ Ascending count (now blocks) ⌝ }
-    ensures { λ r. ⌜ r ≡ workBy geometry (take count (now (blocks .entry))) what ⌝ }
+    ensures { λ r. ⌜ r ≡ plannedBy geometry (take count (now (blocks .entry))) what ⌝ }
 {
     let Record::Reference(reference) = what else {
-        return Work::Step;
+        return PlannedRecord::Step;
     };
     let block = geometry.block_of(reference.address);
     let column = place_in(blocks, count, block);
-    Work::Reference(ColumnTouch {
+    PlannedRecord::Reference(ColumnTouch {
         column: column,
         write: reference.write,
     })
 }
 
-// All nodes of a chart with these blocks.
+// Stores what every node of a chart with these blocks does; the head of the plan stays as it is.
 pub(crate) fn draw_nodes(
     plan: &mut [u16],
     chart: &[u8],
@@ -91,12 +92,12 @@ pub(crate) fn draw_nodes(
         let node = chart::node_at(chart, n);
         let what = node.what;
         let targets = node.targets;
-        let work = work_of(geometry, blocks, count, what);
+        let planned = planned_of(geometry, blocks, count, what);
         put_node(
             plan,
             n,
             PlannedNode {
-                work: work,
+                what: planned,
                 targets: targets,
             },
         );

@@ -11,7 +11,7 @@ use lib.Seq.{getD-set-same, getD-set-other}
 use Rattle.flow.specs.Flow.{Cell, blank, holds, cellAt, Flow, Table}
 use Rattle.flow.specs.Passing.{CellBelow, CellOk, leaving}
 use Rattle.flow.specs.Pass.{met, changes, metAt}
-use Rattle.flow.specs.Laws.{Laws}
+use Rattle.flow.specs.Laws.{Laws, CellReal}
 
 module _ (F : Flow) where
   -- A property of every cell, after a meeting: it holds of the cell met, and of the others as before.
@@ -38,12 +38,8 @@ module _ (F : Flow) where
   cell-in (c ∷ T) (suc n) x e = let h = cell-in T n x e in omega arith
 
 module _ (F : Flow) (L : Laws F) where
-  abbrev pub real : ℕ → Cell (F .State) → Type 0
-  real n blank = Unit {0}
-  real n (holds a) = L .Real n a
-
   -- The laws, of cells.
-  pub cell-ok : (n : ℕ) (c : Cell (F .State)) → real n c → CellOk F c
+  pub cell-ok : (n : ℕ) (c : Cell (F .State)) → CellReal F L n c → CellOk F c
   cell-ok n blank r = tt
   cell-ok n (holds a) r = L .real-ok n a r
 
@@ -57,23 +53,23 @@ module _ (F : Flow) (L : Laws F) where
   cell-trans (holds a) (holds b) blank h k = absurd k
   cell-trans (holds a) (holds b) (holds c) h k = L .below-trans a b c h k
 
-  pub met-left : (n : ℕ) (c : Cell (F .State)) (x : F .State) → real n c → L .Real n x → CellBelow F c (met F c x)
+  pub met-left : (n : ℕ) (c : Cell (F .State)) (x : F .State) → CellReal F L n c → L .Real n x → CellBelow F c (met F c x)
   unfolding met
   met-left n blank x o p = tt
   met-left n (holds a) x o p = L .meet-left n a x o p
 
-  pub met-right : (n : ℕ) (c : Cell (F .State)) (x : F .State) → real n c → L .Real n x → CellBelow F (holds x) (met F c x)
+  pub met-right : (n : ℕ) (c : Cell (F .State)) (x : F .State) → CellReal F L n c → L .Real n x → CellBelow F (holds x) (met F c x)
   unfolding met
   met-right n blank x o p = L .below-refl x
   met-right n (holds a) x o p = L .meet-right n a x o p
 
-  pub met-least : (n : ℕ) (c d : Cell (F .State)) (x : F .State) → real n c → CellOk F d → L .Real n x → CellBelow F c d → CellBelow F (holds x) d → CellBelow F (met F c x) d
+  pub met-least : (n : ℕ) (c d : Cell (F .State)) (x : F .State) → CellReal F L n c → CellOk F d → L .Real n x → CellBelow F c d → CellBelow F (holds x) d → CellBelow F (met F c x) d
   unfolding met
   met-least n blank d x o q p h k = k
   met-least n (holds a) blank x o q p h k = h
   met-least n (holds a) (holds b) x o q p h k = L .meet-least n a x b o p q h k
 
-  pub met-real : (n : ℕ) (c : Cell (F .State)) (x : F .State) → real n c → L .Real n x → real n (met F c x)
+  pub met-real : (n : ℕ) (c : Cell (F .State)) (x : F .State) → CellReal F L n c → L .Real n x → CellReal F L n (met F c x)
   unfolding met
   met-real n blank x o p = p
   met-real n (holds a) x o p = L .real-meet n a x o p
@@ -83,7 +79,7 @@ module _ (F : Flow) (L : Laws F) where
   met-still blank x e = absurd (true≢false e)
   met-still (holds a) x e = ap holds (L .same-yes _ _ (not-false _ e))
 
-  pub leaving-monotone : (n : ℕ) (c d : Cell (F .State)) → n < F .nodes → real n c → CellOk F d → CellBelow F c d → CellBelow F (leaving F n c) (leaving F n d)
+  pub leaving-monotone : (n : ℕ) (c d : Cell (F .State)) → n < F .nodes → CellReal F L n c → CellOk F d → CellBelow F c d → CellBelow F (leaving F n c) (leaving F n d)
   leaving-monotone n blank d b o p h = tt
   leaving-monotone n (holds x) blank b o p h = h
   leaving-monotone n (holds x) (holds y) b o p h = L .monotone n x y b o p h

@@ -9,12 +9,12 @@ use native.Mathlib.Omega.{arith}
 use borrow.Author.Tests.{not-true}
 use native.Mathlib.Decide.{ℕ-discrete}
 use lib.ListN.{length, set}
-use Rattle.flow.proofs.Cells.{real}
-use Rattle.flow.proofs.Settling.{Fair, Due, metAt-still, due, put-on, visits-on, pass-fair, before-fair}
+use Rattle.flow.proofs.Settling.{metAt-still, step-meetable, put-later, takeNodes-later, pass-underway, before-underway}
 use Rattle.lists.specs.Lists.{Among}
 use Rattle.flow.specs.Flow.{Cell, blank, holds, cellAt, Flow, Table}
-use Rattle.flow.specs.Pass.{Run, settled, spent, met, changes, metAt, put, putAll, visitWith, visit, visits, pass, before, afterPasses, settleFrom, settle}
-use Rattle.flow.specs.Laws.{Laws, Height}
+use Rattle.flow.specs.Pass.{Run, settled, spent, met, changes, metAt, put, putAll, takeWith, takeNode, takeNodes, pass, before, afterPasses, settleFrom, settle}
+use Rattle.flow.specs.Laws.{Laws, Height, CellReal}
+use Rattle.flow.specs.Underway.{Underway, Meetable, passChanges, SettledAfter}
 
 -- A settling whose last pass changed nothing is done.
 module _ (F : Flow) where
@@ -24,11 +24,11 @@ module _ (F : Flow) where
   settleFrom-done (suc f) c T = refl
 
 module _ (F : Flow) (L : Laws F) (H : Height F L) where
-  abbrev pub cell-height : Cell (F .State) → ℕ
+  abbrev cell-height : Cell (F .State) → ℕ
   cell-height blank = zero
   cell-height (holds x) = suc (H .height x)
 
-  abbrev pub tab-height : List (Cell (F .State)) → ℕ
+  abbrev tab-height : List (Cell (F .State)) → ℕ
   tab-height [] = zero
   tab-height (c ∷ T) = cell-height c + tab-height T
 
@@ -37,33 +37,33 @@ module _ (F : Flow) (L : Laws F) (H : Height F L) where
   height-set (c ∷ T) zero v h = omega arith
   height-set (c ∷ T) (suc t) v h = let ih = height-set T t v (omega arith) in omega arith
 
-  cell-bound : (n : ℕ) (c : Cell (F .State)) → real F L n c → cell-height c ≤ suc (H .bound)
+  cell-bound : (n : ℕ) (c : Cell (F .State)) → CellReal F L n c → cell-height c ≤ suc (H .bound)
   cell-bound n blank o = omega arith
   cell-bound n (holds x) o = omega (arith, H .bounded n x o)
 
-  pub tab-bound : (k : ℕ) (T : List (Cell (F .State))) → ((n : ℕ) → real F L (k + n) (cellAt T n)) → tab-height T ≤ length T * suc (H .bound)
+  tab-bound : (k : ℕ) (T : List (Cell (F .State))) → ((n : ℕ) → CellReal F L (k + n) (cellAt T n)) → tab-height T ≤ length T * suc (H .bound)
   tab-bound k [] o = omega arith
   tab-bound k (c ∷ T) o =
       let h = cell-bound (k + zero) c (o zero) in
       let ih = tab-bound (suc k) T (λ n. let e : suc k + n ≡ k + suc n = omega arith in rw e (o (suc n))) in
       omega arith
 
-  meet-height : (n : ℕ) (c : Cell (F .State)) (x : F .State) → real F L n c → L .Real n x → changes F c x ≡ true → cell-height c < cell-height (met F c x)
+  meet-height : (n : ℕ) (c : Cell (F .State)) (x : F .State) → CellReal F L n c → L .Real n x → changes F c x ≡ true → cell-height c < cell-height (met F c x)
   unfolding met changes
   meet-height n blank x o p e = omega arith
   meet-height n (holds a) x o p e = let g = H .grows n a x o p (not-true (F .same (F .meet a x) a) e) in omega arith
 
 module _ (F : Flow) (L : Laws F) (H : Height F L) where
-  pub fair-bound : (T : Table F) → Fair F L T → tab-height F L H T ≤ F .nodes * suc (H .bound)
-  fair-bound T f = subst (λ (n : ℕ). tab-height F L H T ≤ n * suc (H .bound)) (f .long) (tab-bound F L H zero T (λ n. let e : zero + n ≡ n = omega arith in rw e (f .fine n)))
+  underway-bound : (T : Table F) → Underway F L T → tab-height F L H T ≤ F .nodes * suc (H .bound)
+  underway-bound T f = subst (λ (n : ℕ). tab-height F L H T ≤ n * suc (H .bound)) (f .long) (tab-bound F L H zero T (λ n. let e : zero + n ≡ n = omega arith in rw e (f .fine n)))
 
-  pub metAt-height : (T : Table F) (t : ℕ) (x : F .State) → Fair F L T → Due F L t x → changes F (cellAt T t) x ≡ true → tab-height F L H T < tab-height F L H (metAt F T t x)
+  metAt-height : (T : Table F) (t : ℕ) (x : F .State) → Underway F L T → Meetable F L t x → changes F (cellAt T t) x ≡ true → tab-height F L H T < tab-height F L H (metAt F T t x)
   unfolding metAt
   metAt-height T t x f d e =
       let l = f .long in
       let i = d .inside in
       let b : t < length T = omega arith in
-      let g = meet-height F L H t (cellAt T t) x (f .fine t) (d .good) e in
+      let g = meet-height F L H t (cellAt T t) x (f .fine t) (d .real) e in
       let s = height-set F L H T t (met F (cellAt T t) x) b in
       omega arith
 
@@ -82,7 +82,7 @@ module _ (F : Flow) (L : Laws F) (H : Height F L) where
       go true q e g = let a = h .strict q g in omega arith
       go false q e g = let a = k .strict e q in omega arith
 
-  put-up : (x : F .State) (t : ℕ) (r : Run (F .State)) → Fair F L (r .table) → Due F L t x → Up r (put F x t r)
+  put-up : (x : F .State) (t : ℕ) (r : Run (F .State)) → Underway F L (r .table) → Meetable F L t x → Up r (put F x t r)
   unfolding put
   put-up x t r f d = go (changes F (cellAt (r .table) t) x) refl
     where
@@ -93,52 +93,52 @@ module _ (F : Flow) (L : Laws F) (H : Height F L) where
         strict = λ p q. absurd (true≢false (sym p ∙ (rw (q, e) refl)));
       }
 
-  putAll-up : (x : F .State) (ts : List ℕ) (r : Run (F .State)) → Fair F L (r .table) → ((t : ℕ) → Among t ts → Due F L t x) → Up r (putAll F x ts r)
+  putAll-up : (x : F .State) (ts : List ℕ) (r : Run (F .State)) → Underway F L (r .table) → ((t : ℕ) → Among t ts → Meetable F L t x) → Up r (putAll F x ts r)
   unfolding putAll
   putAll-up x [] r f d = up-refl r
   putAll-up x (t ∷ ts) r f d =
       up-trans r (put F x t r) (putAll F x ts (put F x t r)) (put-up x t r f (d t (inl refl)))
-      (putAll-up x ts (put F x t r) (put-on F L x t r f (d t (inl refl)) .fair) (λ u i. d u (inr i)))
+      (putAll-up x ts (put F x t r) (put-later F L x t r f (d t (inl refl)) .underway) (λ u i. d u (inr i)))
 
-  visitWith-up : (n : ℕ) (c : Cell (F .State)) (r : Run (F .State)) → cellAt (r .table) n ≡ c → Fair F L (r .table) → Up r (visitWith F n c r)
-  unfolding visitWith
-  visitWith-up n blank r e f = up-refl r
-  visitWith-up n (holds x) r e f = putAll-up (F .step n x) (F .arrows n) r f (due F L (r .table) n x f e)
+  takeWith-up : (n : ℕ) (c : Cell (F .State)) (r : Run (F .State)) → cellAt (r .table) n ≡ c → Underway F L (r .table) → Up r (takeWith F n c r)
+  unfolding takeWith
+  takeWith-up n blank r e f = up-refl r
+  takeWith-up n (holds x) r e f = putAll-up (F .step n x) (F .arrows n) r f (step-meetable F L (r .table) n x f e)
 
-  visit-up : (n : ℕ) (r : Run (F .State)) → Fair F L (r .table) → Up r (visit F n r)
-  unfolding visit
-  visit-up n r f = visitWith-up n (cellAt (r .table) n) r refl f
+  takeNode-up : (n : ℕ) (r : Run (F .State)) → Underway F L (r .table) → Up r (takeNode F n r)
+  unfolding takeNode
+  takeNode-up n r f = takeWith-up n (cellAt (r .table) n) r refl f
 
-  visits-up : (k : ℕ) (r : Run (F .State)) → Fair F L (r .table) → Up r (visits F k r)
-  unfolding visits
-  visits-up zero r f = up-refl r
-  visits-up (suc k) r f = up-trans r (visits F k r) (visit F k (visits F k r)) (visits-up k r f) (visit-up k (visits F k r) (visits-on F L k r f .fair))
+  takeNodes-up : (k : ℕ) (r : Run (F .State)) → Underway F L (r .table) → Up r (takeNodes F k r)
+  unfolding takeNodes
+  takeNodes-up zero r f = up-refl r
+  takeNodes-up (suc k) r f = up-trans r (takeNodes F k r) (takeNode F k (takeNodes F k r)) (takeNodes-up k r f) (takeNode-up k (takeNodes F k r) (takeNodes-later F L k r f .underway))
 
-  pub pass-up : (T : Table F) → Fair F L T → pass F T .changed ≡ true → tab-height F L H T < tab-height F L H (pass F T .table)
+  pass-up : (T : Table F) → Underway F L T → pass F T .changed ≡ true → tab-height F L H T < tab-height F L H (pass F T .table)
   unfolding pass
-  pass-up T f e = visits-up (F .nodes) (record { table = T; changed = false }) f .strict e refl
+  pass-up T f e = takeNodes-up (F .nodes) (record { table = T; changed = false }) f .strict e refl
 
-  settleFrom-ends : (f c : ℕ) (T : Table F) (b : Bool) → Fair F L T → (b ≡ true → F .nodes * suc (H .bound) < f + tab-height F L H T)
+  settleFrom-ends : (f c : ℕ) (T : Table F) (b : Bool) → Underway F L T → (b ≡ true → F .nodes * suc (H .bound) < f + tab-height F L H T)
       → (k : ℕ) × (U : Table F) × (settleFrom F f c T b ≡ settled k U)
   unfolding settleFrom
   settleFrom-ends zero c T false f h = (c, T, refl)
-  settleFrom-ends zero c T true f h = let b = fair-bound T f in let g = h refl in absurd (omega arith)
+  settleFrom-ends zero c T true f h = let b = underway-bound T f in let g = h refl in absurd (omega arith)
   settleFrom-ends (suc n) c T false f h = (c, T, refl)
   settleFrom-ends (suc n) c T true f h =
-      settleFrom-ends n (suc c) (pass F T .table) (pass F T .changed) (pass-fair F L T f) (λ e. let u = pass-up T f e in let g = h refl in omega arith)
+      settleFrom-ends n (suc c) (pass F T .table) (pass F T .changed) (pass-underway F L T f) (λ e. let u = pass-up T f e in let g = h refl in omega arith)
 
   -- 3. An allowance above nodes * (1 + bound) settles.
-  pub settles : (f : ℕ) → F .nodes * suc (H .bound) < f → (k : ℕ) × (U : Table F) × (settle F f ≡ settled k U)
+  pub settle-ends : (f : ℕ) → F .nodes * suc (H .bound) < f → (k : ℕ) × (U : Table F) × (settle F f ≡ settled k U)
   unfolding settle
-  settles f h = settleFrom-ends f zero (before F) true (before-fair F L) (λ e. omega arith)
+  settle-ends f h = settleFrom-ends f zero (before F) true (before-underway F L) (λ e. omega arith)
 
-  settleFrom-count : (f c : ℕ) (T : Table F) (b : Bool) → Fair F L T → (k : ℕ) (U : Table F) → settleFrom F f c T b ≡ settled k U
+  settleFrom-count : (f c : ℕ) (T : Table F) (b : Bool) → Underway F L T → (k : ℕ) (U : Table F) → settleFrom F f c T b ≡ settled k U
       → k + tab-height F L H T ≤ c + F .nodes * suc (H .bound) + 1
   unfolding settleFrom
-  settleFrom-count zero c T false f k U e = let q : c ≡ k = cc in let h = fair-bound T f in omega arith
+  settleFrom-count zero c T false f k U e = let q : c ≡ k = cc in let h = underway-bound T f in omega arith
   settleFrom-count zero c T true f k U e = let z : _≡_ {A = ℕ} 0 1 = cc in absurd (omega arith)
-  settleFrom-count (suc n) c T false f k U e = let q : c ≡ k = cc in let h = fair-bound T f in omega arith
-  settleFrom-count (suc n) c T true f k U e = go (pass F T .changed) refl (settleFrom-count n (suc c) (pass F T .table) (pass F T .changed) (pass-fair F L T f) k U e)
+  settleFrom-count (suc n) c T false f k U e = let q : c ≡ k = cc in let h = underway-bound T f in omega arith
+  settleFrom-count (suc n) c T true f k U e = go (pass F T .changed) refl (settleFrom-count n (suc c) (pass F T .table) (pass F T .changed) (pass-underway F L T f) k U e)
     where
       go : (b : Bool) → pass F T .changed ≡ b → k + tab-height F L H (pass F T .table) ≤ suc c + F .nodes * suc (H .bound) + 1 → k + tab-height F L H T ≤ c + F .nodes * suc (H .bound) + 1
       go true q h = let u = pass-up T f q in omega arith
@@ -147,61 +147,51 @@ module _ (F : Flow) (L : Laws F) (H : Height F L) where
           let s = settleFrom-done F n (suc c) (pass F T .table) in
           let r : settleFrom F n (suc c) (pass F T .table) false ≡ settled k U = rw q at g in
           let p : suc c ≡ k = cc in
-          let m = fair-bound T f in
+          let m = underway-bound T f in
           omega arith
 
   -- No settling takes more passes than that.
   pub settle-count : (f k : ℕ) (U : Table F) → settle F f ≡ settled k U → k ≤ F .nodes * suc (H .bound) + 1
   unfolding settle
-  settle-count f k U e = let h = settleFrom-count f zero (before F) true (before-fair F L) k U e in omega arith
+  settle-count f k U e = let h = settleFrom-count f zero (before F) true (before-underway F L) k U e in omega arith
 
 -- What an outcome says of the passes made.
 module _ (F : Flow) where
-  -- Whether the pass after k changes something.
-  abbrev pub moves : ℕ → Bool
-  moves k = pass F (afterPasses F k) .changed
-
-  pub record Count (f k : ℕ) (U : Table F) : Type 0 where
-    pub within : k ≤ f
-    pub table : U ≡ afterPasses F k
-    pub last : (j : ℕ) → suc j ≡ k → moves j ≡ false
-    pub before : (j : ℕ) → suc j < k → moves j ≡ true
-
-  counted : (f c : ℕ) (T : Table F) → T ≡ afterPasses F c → ((j : ℕ) → suc j ≡ c → moves j ≡ false) → ((j : ℕ) → suc j < c → moves j ≡ true)
-      → (k : ℕ) (U : Table F) → settled c T ≡ settled k U → c ≤ f → Count f k U
-  counted f c T t l b k U e h =
+  done-after : (f c : ℕ) (T : Table F) → T ≡ afterPasses F c → ((j : ℕ) → suc j ≡ c → passChanges F j ≡ false) → ((j : ℕ) → suc j < c → passChanges F j ≡ true)
+      → (k : ℕ) (U : Table F) → settled c T ≡ settled k U → c ≤ f → SettledAfter F f k U
+  done-after f c T t l b k U e h =
       let p : c ≡ k = cc in
       let q : U ≡ afterPasses F k = cc in
-      record { within = omega arith; table = q; last = λ j s. l j (omega arith); before = λ j s. b j (omega arith) }
+      record { within = omega arith; table = q; last = λ j s. l j (omega arith); earlier = λ j s. b j (omega arith) }
 
-  earlier : (c : ℕ) → ((j : ℕ) → suc j ≡ c → moves j ≡ true) → ((j : ℕ) → suc j < c → moves j ≡ true) → (j : ℕ) → suc j < suc c → moves j ≡ true
+  earlier : (c : ℕ) → ((j : ℕ) → suc j ≡ c → passChanges F j ≡ true) → ((j : ℕ) → suc j < c → passChanges F j ≡ true) → (j : ℕ) → suc j < suc c → passChanges F j ≡ true
   earlier c l b j s = go (ℕ-discrete (suc j) c)
     where
-      go : Dec (suc j ≡ c) → moves j ≡ true
+      go : Dec (suc j ≡ c) → passChanges F j ≡ true
       go (yes p) = l j p
       go (no q) = b j (omega arith)
 
-  at-next : (T : Table F) (c : ℕ) → T ≡ afterPasses F c → (j : ℕ) → suc j ≡ suc c → moves j ≡ pass F T .changed
+  at-next : (T : Table F) (c : ℕ) → T ≡ afterPasses F c → (j : ℕ) → suc j ≡ suc c → passChanges F j ≡ pass F T .changed
   at-next T c t j s = let p : j ≡ c = omega arith in ap (λ (i : ℕ). pass F (afterPasses F i) .changed) p ∙ ap (λ (S : Table F). pass F S .changed) (sym t)
 
-  settleFrom-says : (f c : ℕ) (T : Table F) (b : Bool) → T ≡ afterPasses F c → ((j : ℕ) → suc j ≡ c → moves j ≡ b) → ((j : ℕ) → suc j < c → moves j ≡ true)
-      → (k : ℕ) (U : Table F) → settleFrom F f c T b ≡ settled k U → Count (c + f) k U
+  settleFrom-after : (f c : ℕ) (T : Table F) (b : Bool) → T ≡ afterPasses F c → ((j : ℕ) → suc j ≡ c → passChanges F j ≡ b) → ((j : ℕ) → suc j < c → passChanges F j ≡ true)
+      → (k : ℕ) (U : Table F) → settleFrom F f c T b ≡ settled k U → SettledAfter F (c + f) k U
   unfolding settleFrom afterPasses
-  settleFrom-says zero c T false t l b k U e = counted (c + zero) c T t l b k U e (omega arith)
-  settleFrom-says zero c T true t l b k U e = let z : _≡_ {A = ℕ} 0 1 = cc in absurd (omega arith)
-  settleFrom-says (suc n) c T false t l b k U e = counted (c + suc n) c T t l b k U e (omega arith)
-  settleFrom-says (suc n) c T true t l b k U e =
+  settleFrom-after zero c T false t l b k U e = done-after (c + zero) c T t l b k U e (omega arith)
+  settleFrom-after zero c T true t l b k U e = let z : _≡_ {A = ℕ} 0 1 = cc in absurd (omega arith)
+  settleFrom-after (suc n) c T false t l b k U e = done-after (c + suc n) c T t l b k U e (omega arith)
+  settleFrom-after (suc n) c T true t l b k U e =
       let w : c + suc n ≡ suc c + n = omega arith in
-      rw w (settleFrom-says n (suc c) (pass F T .table) (pass F T .changed) (ap (λ (S : Table F). pass F S .table) t) (at-next T c t) (earlier c l b) k U e)
+      rw w (settleFrom-after n (suc c) (pass F T .table) (pass F T .changed) (ap (λ (S : Table F). pass F S .table) t) (at-next T c t) (earlier c l b) k U e)
 
-  pub settle-says : (f k : ℕ) (U : Table F) → settle F f ≡ settled k U → Count f k U
+  pub settle-after : (f k : ℕ) (U : Table F) → settle F f ≡ settled k U → SettledAfter F f k U
   unfolding settle afterPasses
-  settle-says f k U e =
+  settle-after f k U e =
       let w : f ≡ zero + f = omega arith in
-      rw w (settleFrom-says f zero (before F) true refl (λ j s. absurd (omega arith)) (λ j s. absurd (omega arith)) k U e)
+      rw w (settleFrom-after f zero (before F) true refl (λ j s. absurd (omega arith)) (λ j s. absurd (omega arith)) k U e)
 
-  settleFrom-spends : (f c : ℕ) (T : Table F) (b : Bool) → T ≡ afterPasses F c → ((j : ℕ) → suc j ≡ c → moves j ≡ b) → ((j : ℕ) → suc j < c → moves j ≡ true)
-      → settleFrom F f c T b ≡ spent → (j : ℕ) → j < c + f → moves j ≡ true
+  settleFrom-spends : (f c : ℕ) (T : Table F) (b : Bool) → T ≡ afterPasses F c → ((j : ℕ) → suc j ≡ c → passChanges F j ≡ b) → ((j : ℕ) → suc j < c → passChanges F j ≡ true)
+      → settleFrom F f c T b ≡ spent → (j : ℕ) → j < c + f → passChanges F j ≡ true
   unfolding settleFrom afterPasses
   settleFrom-spends zero c T false t l b e j h = let z : _≡_ {A = ℕ} 0 1 = cc in absurd (omega arith)
   settleFrom-spends zero c T true t l b e j h = earlier c l b j (omega arith)
@@ -209,6 +199,6 @@ module _ (F : Flow) where
   settleFrom-spends (suc n) c T true t l b e j h =
       settleFrom-spends n (suc c) (pass F T .table) (pass F T .changed) (ap (λ (S : Table F). pass F S .table) t) (at-next T c t) (earlier c l b) e j (omega arith)
 
-  pub settle-spends : (f : ℕ) → settle F f ≡ spent → (j : ℕ) → j < f → moves j ≡ true
+  pub settle-spends : (f : ℕ) → settle F f ≡ spent → (j : ℕ) → j < f → passChanges F j ≡ true
   unfolding settle afterPasses
   settle-spends f e j h = settleFrom-spends f zero (before F) true refl (λ i s. absurd (omega arith)) (λ i s. absurd (omega arith)) e j (omega arith)

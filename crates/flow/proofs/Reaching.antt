@@ -1,15 +1,14 @@
--- The settled table marks a node exactly if a walk reaches it.
+-- Which nodes the settled table marks: those that walks reach, and no other (rule 7.9).
 use mathlib.Core.Path.{_≡_, refl, sym, subst}
 use mathlib.Core.List.{List, [], _∷_, _++_}
 use Prim.Native.Nat.{ℕ}
-use Rattle.flow.proofs.Cells.{real}
-use Rattle.flow.proofs.Settling.{after-fair, settle-tight}
-use Rattle.flow.proofs.Ending.{settle-says}
+use Rattle.flow.proofs.Settling.{afterPasses-underway, settle-tight}
+use Rattle.flow.proofs.Ending.{settle-after}
 use Rattle.lists.specs.Lists.{Among}
 use Rattle.flow.specs.Flow.{Cell, blank, holds, cellAt, Flow, Table}
 use Rattle.flow.specs.Passing.{CellBelow, leaving, Marked, Passing}
 use Rattle.flow.specs.Pass.{settled, settle, afterPasses}
-use Rattle.flow.specs.Laws.{Laws}
+use Rattle.flow.specs.Laws.{Laws, CellReal}
 use Rattle.flow.specs.Walk.{Onward, lastOf, Reached}
 
 -- A walk goes on along any arrow of its last node.
@@ -19,7 +18,7 @@ onward-more arrows n t (k ∷ ts) w i = (w .0, onward-more arrows k t ts (w .1) 
 
 module _ (F : Flow) where
   -- A walk reaches n, step by step.
-  pub data Reach : ℕ → Type 0 where
+  data Reach : ℕ → Type 0 where
     at-entry : Reach (F .entry)
     onward : {n t : ℕ} → Reach n → Among t (F .arrows n) → Reach t
 
@@ -32,7 +31,7 @@ module _ (F : Flow) where
   out-marked n blank m = m
   out-marked n (holds a) m = tt
 
-  pub reach-marked : (T : Table F) → Passing F T → {n : ℕ} → Reach n → Marked (cellAt T n)
+  reach-marked : (T : Table F) → Passing F T → {n : ℕ} → Reach n → Marked (cellAt T n)
   reach-marked T p at-entry = le-marked (holds (F .start)) (cellAt T (F .entry)) (p .begun) tt
   reach-marked T p (onward {n = n} {t = t} r i) = le-marked (leaving F n (cellAt T n)) (cellAt T t) (p .closed n t i) (out-marked n (cellAt T n) (reach-marked T p r))
 
@@ -45,14 +44,14 @@ module _ (F : Flow) where
   last-snoc n t [] = refl
   last-snoc n t (k ∷ ts) = last-snoc k t ts
 
-  pub reach-reached : {n : ℕ} → Reach n → Reached (F .arrows) (F .entry) n
+  reach-reached : {n : ℕ} → Reach n → Reached (F .arrows) (F .entry) n
   reach-reached at-entry = ([], (tt, refl))
   reach-reached (onward {n = n} {t = t} r i) = go (reach-reached r)
     where
       go : Reached (F .arrows) (F .entry) n → Reached (F .arrows) (F .entry) t
       go w = (w .0 ++ t ∷ [], (onward-more (F .arrows) (F .entry) t (w .0) (w .1 .0) (subst (λ (k : ℕ). Among t (F .arrows k)) (sym (w .1 .1)) i), last-snoc (F .entry) t (w .0)))
 
-  pub reached-reach : (n : ℕ) → Reached (F .arrows) (F .entry) n → Reach n
+  reached-reach : (n : ℕ) → Reached (F .arrows) (F .entry) n → Reach n
   reached-reach n w = subst Reach (w .1 .1) (reach-onward (F .entry) (w .0) at-entry (w .1 .0))
 
 module _ (F : Flow) (L : Laws F) where
@@ -76,16 +75,16 @@ module _ (F : Flow) (L : Laws F) where
     same-yes = L .same-yes;
   }
 
-  pub marked-reach : (k n : ℕ) → Marked (cellAt (afterPasses F k) n) → Reach F n
-  marked-reach k n m = go (cellAt (afterPasses F k) n) m (after-fair F reach-laws k .fine n)
+  marked-reach : (k n : ℕ) → Marked (cellAt (afterPasses F k) n) → Reach F n
+  marked-reach k n m = go (cellAt (afterPasses F k) n) m (afterPasses-underway F reach-laws k .fine n)
     where
-      go : (c : Cell (F .State)) → Marked c → real F reach-laws n c → Reach F n
+      go : (c : Cell (F .State)) → Marked c → CellReal F reach-laws n c → Reach F n
       go blank m r = absurd m
       go (holds x) m r = r .1
 
-  -- "The tightest marks a node exactly if a walk reaches it."
+  -- Rule 7.9.
   pub settled-reach : (f k : ℕ) (U : Table F) → settle F f ≡ settled k U → (n : ℕ) → (Marked (cellAt U n) → Reached (F .arrows) (F .entry) n) × (Reached (F .arrows) (F .entry) n → Marked (cellAt U n))
   settled-reach f k U e n = (
-    λ m. reach-reached F (marked-reach k n (subst (λ (S : Table F). Marked (cellAt S n)) (settle-says F f k U e .table) m)),
-    λ r. reach-marked F U (settle-tight F L f k U e .passes) (reached-reach F n r),
+    λ m. reach-reached F (marked-reach k n (subst (λ (S : Table F). Marked (cellAt S n)) (settle-after F f k U e .table) m)),
+    λ r. reach-marked F U (settle-tight F L f k U e .passing) (reached-reach F n r),
   )

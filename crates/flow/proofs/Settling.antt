@@ -11,40 +11,28 @@ use lib.Seq.{ext-getD, getD-set-same, getD-set-other, set-getD}
 use Rattle.lists.specs.Lists.{Among}
 use Rattle.flow.specs.Flow.{Cell, blank, holds, cellAt, Flow, Table}
 use Rattle.flow.specs.Passing.{CellBelow, CellOk, leaving, Under, Passing, Tightest}
-use Rattle.flow.specs.Pass.{Run, settled, changes, metAt, put, putAll, visitWith, visit, visits, pass, before, afterPasses, settleFrom, settle}
-use Rattle.flow.specs.Laws.{Laws}
-use Rattle.flow.proofs.Cells.{metAt-all, metAt-length, metAt-at, cell-in, real, cell-ok, cell-refl, cell-trans, met-left, met-right, met-least, met-real, met-still, leaving-monotone}
+use Rattle.flow.specs.Pass.{Run, settled, changes, metAt, put, putAll, takeWith, takeNode, takeNodes, pass, before, afterPasses, settleFrom, settle}
+use Rattle.flow.specs.Laws.{Laws, CellReal}
+use Rattle.flow.specs.Underway.{Underway, Meetable, LaterRun}
+use Rattle.flow.proofs.Cells.{metAt-all, metAt-length, metAt-at, cell-in, cell-ok, cell-refl, cell-trans, met-left, met-right, met-least, met-real, met-still, leaving-monotone}
 
 module _ (F : Flow) (L : Laws F) where
-  -- What is known of every table on the way: it is long enough and well formed, it has the start, and it is below every table that passes.
-  pub record Fair (T : Table F) : Type 0 where
-    pub long : length T ≡ F .nodes
-    pub fine : (n : ℕ) → real F L n (cellAt T n)
-    pub begun : CellBelow F (holds (F .start)) (cellAt T (F .entry))
-    pub under : (P : Table F) → Passing F P → Under F T P
-
-  -- x may be met into t: t is a node, x is well formed, and no passing table has less at t.
-  pub record Due (t : ℕ) (x : F .State) : Type 0 where
-    pub inside : t < F .nodes
-    pub good : L .Real t x
-    pub owed : (P : Table F) → Passing F P → CellBelow F (holds x) (cellAt P t)
-
   metAt-in : (T : Table F) (t : ℕ) → length T ≡ F .nodes → t < F .nodes → t < length T
   metAt-in T t e h = omega arith
 
-  pub metAt-grows : (T : Table F) (t : ℕ) (x : F .State) → Fair T → Due t x → Under F T (metAt F T t x)
+  pub metAt-grows : (T : Table F) (t : ℕ) (x : F .State) → Underway F L T → Meetable F L t x → Under F T (metAt F T t x)
   metAt-grows T t x f d =
-      metAt-all F (λ m c. CellBelow F (cellAt T m) c) T t x (metAt-in T t (f .long) (d .inside)) (met-left F L t (cellAt T t) x (f .fine t) (d .good)) (λ m. cell-refl F L (cellAt T m))
+      metAt-all F (λ m c. CellBelow F (cellAt T m) c) T t x (metAt-in T t (f .long) (d .inside)) (met-left F L t (cellAt T t) x (f .fine t) (d .real)) (λ m. cell-refl F L (cellAt T m))
 
-  pub metAt-has : (T : Table F) (t : ℕ) (x : F .State) → Fair T → Due t x → CellBelow F (holds x) (cellAt (metAt F T t x) t)
-  metAt-has T t x f d = rw (metAt-at F T t x (metAt-in T t (f .long) (d .inside))) (met-right F L t (cellAt T t) x (f .fine t) (d .good))
+  pub metAt-has : (T : Table F) (t : ℕ) (x : F .State) → Underway F L T → Meetable F L t x → CellBelow F (holds x) (cellAt (metAt F T t x) t)
+  metAt-has T t x f d = rw (metAt-at F T t x (metAt-in T t (f .long) (d .inside))) (met-right F L t (cellAt T t) x (f .fine t) (d .real))
 
-  pub metAt-fair : (T : Table F) (t : ℕ) (x : F .State) → Fair T → Due t x → Fair (metAt F T t x)
-  metAt-fair T t x f d = record {
+  pub metAt-underway : (T : Table F) (t : ℕ) (x : F .State) → Underway F L T → Meetable F L t x → Underway F L (metAt F T t x)
+  metAt-underway T t x f d = record {
     long = metAt-length F T t x ∙ f .long;
-    fine = metAt-all F (λ m c. real F L m c) T t x b (met-real F L t (cellAt T t) x (f .fine t) (d .good)) (f .fine);
+    fine = metAt-all F (λ m c. CellReal F L m c) T t x b (met-real F L t (cellAt T t) x (f .fine t) (d .real)) (f .fine);
     begun = cell-trans F L (holds (F .start)) (cellAt T (F .entry)) (cellAt (metAt F T t x) (F .entry)) (f .begun) (metAt-grows T t x f d (F .entry));
-    under = λ P p. metAt-all F (λ m c. CellBelow F c (cellAt P m)) T t x b (met-least F L t (cellAt T t) (cellAt P t) x (f .fine t) (p .fine t) (d .good) (f .under P p t) (d .owed P p)) (f .under P p);
+    under = λ P p. metAt-all F (λ m c. CellBelow F c (cellAt P m)) T t x b (met-least F L t (cellAt T t) (cellAt P t) x (f .fine t) (p .fine t) (d .real) (f .under P p t) (d .below-passing P p)) (f .under P p);
   }
     where
       b : t < length T
@@ -54,15 +42,15 @@ module _ (F : Flow) (L : Laws F) where
   unfolding metAt
   metAt-still T t x e = rw (met-still F L (cellAt T t) x e) (set-getD T t blank)
 
-  -- what leaves a marked node is due at each of its targets
-  pub due : (T : Table F) (n : ℕ) (x : F .State) → Fair T → cellAt T n ≡ holds x → (t : ℕ) → Among t (F .arrows n) → Due (t) (F .step n x)
-  due T n x f e t i = record { inside = L .arrows-in n t b i; good = L .real-step n t x b i o; owed = w }
+  -- what leaves a marked node may be met into each of its targets
+  pub step-meetable : (T : Table F) (n : ℕ) (x : F .State) → Underway F L T → cellAt T n ≡ holds x → (t : ℕ) → Among t (F .arrows n) → Meetable F L t (F .step n x)
+  step-meetable T n x f e t i = record { inside = L .arrows-in n t b i; real = L .real-step n t x b i o; below-passing = w }
     where
       b : n < F .nodes
       b = let h = cell-in F T n x e in let l = f .long in omega arith
 
       o : L .Real n x
-      o = subst (real F L n) e (f .fine n)
+      o = subst (CellReal F L n) e (f .fine n)
 
       w : (P : Table F) → Passing F P → CellBelow F (holds (F .step n x)) (cellAt P t)
       w P p = cell-trans F L (leaving F n (holds x)) (leaving F n (cellAt P n)) (cellAt P t) (leaving-monotone F L n (holds x) (cellAt P n) b o (p .fine n) (subst (λ (c : Cell (F .State)). CellBelow F c (cellAt P n)) e (f .under P p n))) (p .closed n t i)
@@ -71,105 +59,99 @@ module _ (F : Flow) (L : Laws F) where
   or-false true b e = absurd (true≢false e)
   or-false false b e = (refl, e)
 
-  -- From one run to a later one: the table stays fair and only grows, and where nothing has changed it is the same.
-  pub record On (r s : Run (F .State)) : Type 0 where
-    pub fair : Fair (s .table)
-    pub grows : Under F (r .table) (s .table)
-    pub still : s .changed ≡ false → (s .table ≡ r .table) × (r .changed ≡ false)
+  later-refl : (r : Run (F .State)) → Underway F L (r .table) → LaterRun F L r r
+  later-refl r f = record { underway = f; grows = λ n. cell-refl F L (cellAt (r .table) n); still = λ e. (refl, e) }
 
-  on-refl : (r : Run (F .State)) → Fair (r .table) → On r r
-  on-refl r f = record { fair = f; grows = λ n. cell-refl F L (cellAt (r .table) n); still = λ e. (refl, e) }
-
-  on-trans : (r s u : Run (F .State)) → On r s → On s u → On r u
-  on-trans r s u h k = record {
-    fair = k .fair;
+  later-trans : (r s u : Run (F .State)) → LaterRun F L r s → LaterRun F L s u → LaterRun F L r u
+  later-trans r s u h k = record {
+    underway = k .underway;
     grows = λ n. cell-trans F L (cellAt (r .table) n) (cellAt (s .table) n) (cellAt (u .table) n) (h .grows n) (k .grows n);
     still = λ e. (k .still e .0 ∙ h .still (k .still e .1) .0, h .still (k .still e .1) .1);
   }
 
-  pub put-on : (x : F .State) (t : ℕ) (r : Run (F .State)) → Fair (r .table) → Due t x → On r (put F x t r)
+  pub put-later : (x : F .State) (t : ℕ) (r : Run (F .State)) → Underway F L (r .table) → Meetable F L t x → LaterRun F L r (put F x t r)
   unfolding put
-  put-on x t r f d = record {
-    fair = metAt-fair (r .table) t x f d;
+  put-later x t r f d = record {
+    underway = metAt-underway (r .table) t x f d;
     grows = metAt-grows (r .table) t x f d;
     still = λ e. let o = or-false (r .changed) (changes F (cellAt (r .table) t) x) e in (metAt-still (r .table) t x (o .1), o .0);
   }
 
-  pub putAll-on : (x : F .State) (ts : List ℕ) (r : Run (F .State)) → Fair (r .table) → ((t : ℕ) → Among t ts → Due t x) → On r (putAll F x ts r)
+  pub putAll-later : (x : F .State) (ts : List ℕ) (r : Run (F .State)) → Underway F L (r .table) → ((t : ℕ) → Among t ts → Meetable F L t x) → LaterRun F L r (putAll F x ts r)
   unfolding putAll
-  putAll-on x [] r f d = on-refl r f
-  putAll-on x (t ∷ ts) r f d =
-      let h = put-on x t r f (d t (inl refl)) in
-      on-trans r (put F x t r) (putAll F x ts (put F x t r)) h (putAll-on x ts (put F x t r) (h .fair) (λ u i. d u (inr i)))
+  putAll-later x [] r f d = later-refl r f
+  putAll-later x (t ∷ ts) r f d =
+      let h = put-later x t r f (d t (inl refl)) in
+      later-trans r (put F x t r) (putAll F x ts (put F x t r)) h (putAll-later x ts (put F x t r) (h .underway) (λ u i. d u (inr i)))
 
-  pub putAll-has : (x : F .State) (ts : List ℕ) (r : Run (F .State)) → Fair (r .table) → ((t : ℕ) → Among t ts → Due t x) → (t : ℕ) → Among t ts
+  pub putAll-has : (x : F .State) (ts : List ℕ) (r : Run (F .State)) → Underway F L (r .table) → ((t : ℕ) → Among t ts → Meetable F L t x) → (t : ℕ) → Among t ts
       → CellBelow F (holds x) (cellAt (putAll F x ts r .table) t)
   unfolding putAll put
   putAll-has x [] r f d t i = absurd i
   putAll-has x (u ∷ ts) r f d t (inl e) =
-      let h = put-on x u r f (d u (inl refl)) in
-      let k = putAll-on x ts (put F x u r) (h .fair) (λ v i. d v (inr i)) in
+      let h = put-later x u r f (d u (inl refl)) in
+      let k = putAll-later x ts (put F x u r) (h .underway) (λ v i. d v (inr i)) in
       cell-trans F L (holds x) (cellAt (put F x u r .table) t) (cellAt (putAll F x ts (put F x u r) .table) t) (rw e (metAt-has (r .table) u x f (d u (inl refl)))) (k .grows t)
-  putAll-has x (u ∷ ts) r f d t (inr i) = putAll-has x ts (put F x u r) (put-on x u r f (d u (inl refl)) .fair) (λ v j. d v (inr j)) t i
+  putAll-has x (u ∷ ts) r f d t (inr i) = putAll-has x ts (put F x u r) (put-later x u r f (d u (inl refl)) .underway) (λ v j. d v (inr j)) t i
 
-  visitWith-on : (n : ℕ) (c : Cell (F .State)) (r : Run (F .State)) → cellAt (r .table) n ≡ c → Fair (r .table) → On r (visitWith F n c r)
-  unfolding visitWith
-  visitWith-on n blank r e f = on-refl r f
-  visitWith-on n (holds x) r e f = putAll-on (F .step n x) (F .arrows n) r f (due (r .table) n x f e)
+  takeWith-later : (n : ℕ) (c : Cell (F .State)) (r : Run (F .State)) → cellAt (r .table) n ≡ c → Underway F L (r .table) → LaterRun F L r (takeWith F n c r)
+  unfolding takeWith
+  takeWith-later n blank r e f = later-refl r f
+  takeWith-later n (holds x) r e f = putAll-later (F .step n x) (F .arrows n) r f (step-meetable (r .table) n x f e)
 
-  pub visit-on : (n : ℕ) (r : Run (F .State)) → Fair (r .table) → On r (visit F n r)
-  unfolding visit
-  visit-on n r f = visitWith-on n (cellAt (r .table) n) r refl f
+  pub takeNode-later : (n : ℕ) (r : Run (F .State)) → Underway F L (r .table) → LaterRun F L r (takeNode F n r)
+  unfolding takeNode
+  takeNode-later n r f = takeWith-later n (cellAt (r .table) n) r refl f
 
-  visitWith-has : (n : ℕ) (c : Cell (F .State)) (r : Run (F .State)) → cellAt (r .table) n ≡ c → Fair (r .table) → (t : ℕ) → Among t (F .arrows n)
-      → CellBelow F (leaving F n c) (cellAt (visitWith F n c r .table) t)
-  unfolding visitWith
-  visitWith-has n blank r e f t i = tt
-  visitWith-has n (holds x) r e f t i = putAll-has (F .step n x) (F .arrows n) r f (due (r .table) n x f e) t i
+  takeWith-has : (n : ℕ) (c : Cell (F .State)) (r : Run (F .State)) → cellAt (r .table) n ≡ c → Underway F L (r .table) → (t : ℕ) → Among t (F .arrows n)
+      → CellBelow F (leaving F n c) (cellAt (takeWith F n c r .table) t)
+  unfolding takeWith
+  takeWith-has n blank r e f t i = tt
+  takeWith-has n (holds x) r e f t i = putAll-has (F .step n x) (F .arrows n) r f (step-meetable (r .table) n x f e) t i
 
-  pub visit-has : (n : ℕ) (r : Run (F .State)) → Fair (r .table) → (t : ℕ) → Among t (F .arrows n) → CellBelow F (leaving F n (cellAt (r .table) n)) (cellAt (visit F n r .table) t)
-  unfolding visit
-  visit-has n r f t i = visitWith-has n (cellAt (r .table) n) r refl f t i
+  pub takeNode-has : (n : ℕ) (r : Run (F .State)) → Underway F L (r .table) → (t : ℕ) → Among t (F .arrows n) → CellBelow F (leaving F n (cellAt (r .table) n)) (cellAt (takeNode F n r .table) t)
+  unfolding takeNode
+  takeNode-has n r f t i = takeWith-has n (cellAt (r .table) n) r refl f t i
 
-  pub visits-on : (k : ℕ) (r : Run (F .State)) → Fair (r .table) → On r (visits F k r)
-  unfolding visits
-  visits-on zero r f = on-refl r f
-  visits-on (suc k) r f =
-      let h = visits-on k r f in
-      on-trans r (visits F k r) (visit F k (visits F k r)) h (visit-on k (visits F k r) (h .fair))
+  pub takeNodes-later : (k : ℕ) (r : Run (F .State)) → Underway F L (r .table) → LaterRun F L r (takeNodes F k r)
+  unfolding takeNodes
+  takeNodes-later zero r f = later-refl r f
+  takeNodes-later (suc k) r f =
+      let h = takeNodes-later k r f in
+      later-trans r (takeNodes F k r) (takeNode F k (takeNodes F k r)) h (takeNode-later k (takeNodes F k r) (h .underway))
 
   -- visits that changed nothing have looked at every arrow
-  pub visits-closed : (k : ℕ) (r : Run (F .State)) → Fair (r .table) → visits F k r .changed ≡ false → (n t : ℕ) → n < k → Among t (F .arrows n)
+  pub takeNodes-closed : (k : ℕ) (r : Run (F .State)) → Underway F L (r .table) → takeNodes F k r .changed ≡ false → (n t : ℕ) → n < k → Among t (F .arrows n)
       → CellBelow F (leaving F n (cellAt (r .table) n)) (cellAt (r .table) t)
-  unfolding visits
-  visits-closed zero r f e n t h i = absurd (omega arith)
-  visits-closed (suc k) r f e n t h i = go (ℕ-discrete n k) (λ q l. visits-closed k r f q n t l i)
+  unfolding takeNodes
+  takeNodes-closed zero r f e n t h i = absurd (omega arith)
+  takeNodes-closed (suc k) r f e n t h i = go (ℕ-discrete n k) (λ q l. takeNodes-closed k r f q n t l i)
     where
-      a : On r (visits F k r)
-      a = visits-on k r f
+      a : LaterRun F L r (takeNodes F k r)
+      a = takeNodes-later k r f
 
-      b : On (visits F k r) (visit F k (visits F k r))
-      b = visit-on k (visits F k r) (a .fair)
+      b : LaterRun F L (takeNodes F k r) (takeNode F k (takeNodes F k r))
+      b = takeNode-later k (takeNodes F k r) (a .underway)
 
-      same-tab : visit F k (visits F k r) .table ≡ r .table
+      same-tab : takeNode F k (takeNodes F k r) .table ≡ r .table
       same-tab = b .still e .0 ∙ a .still (b .still e .1) .0
 
-      go : Dec (n ≡ k) → (visits F k r .changed ≡ false → n < k → CellBelow F (leaving F n (cellAt (r .table) n)) (cellAt (r .table) t)) → CellBelow F (leaving F n (cellAt (r .table) n)) (cellAt (r .table) t)
+      go : Dec (n ≡ k) → (takeNodes F k r .changed ≡ false → n < k → CellBelow F (leaving F n (cellAt (r .table) n)) (cellAt (r .table) t)) → CellBelow F (leaving F n (cellAt (r .table) n)) (cellAt (r .table) t)
       go (yes p) ih = subst (λ (T : Table F). CellBelow F (leaving F n (cellAt (r .table) n)) (cellAt T t)) same-tab
-          (subst (λ (T : Table F). CellBelow F (leaving F n (cellAt T n)) (cellAt (visit F k (visits F k r) .table) t)) (a .still (b .still e .1) .0)
-          (rw p (visit-has k (visits F k r) (a .fair) t (rw (← p) i))))
+          (subst (λ (T : Table F). CellBelow F (leaving F n (cellAt T n)) (cellAt (takeNode F k (takeNodes F k r) .table) t)) (a .still (b .still e .1) .0)
+          (rw p (takeNode-has k (takeNodes F k r) (a .underway) t (rw (← p) i))))
       go (no q) ih = ih (b .still e .1) (omega arith)
 
-  pub pass-fair : (T : Table F) → Fair T → Fair (pass F T .table)
+  pub pass-underway : (T : Table F) → Underway F L T → Underway F L (pass F T .table)
   unfolding pass
-  pass-fair T f = visits-on (F .nodes) (record { table = T; changed = false }) f .fair
+  pass-underway T f = takeNodes-later (F .nodes) (record { table = T; changed = false }) f .underway
 
-  pub pass-still : (T : Table F) → Fair T → pass F T .changed ≡ false → pass F T .table ≡ T
+  pub pass-still : (T : Table F) → Underway F L T → pass F T .changed ≡ false → pass F T .table ≡ T
   unfolding pass
-  pass-still T f e = visits-on (F .nodes) (record { table = T; changed = false }) f .still e .0
+  pass-still T f e = takeNodes-later (F .nodes) (record { table = T; changed = false }) f .still e .0
 
   -- 2. A pass that changes nothing: the table passes.
-  pub still-passes : (T : Table F) → Fair T → pass F T .changed ≡ false → Passing F T
+  pub still-passes : (T : Table F) → Underway F L T → pass F T .changed ≡ false → Passing F T
   unfolding pass
   still-passes T f e = record { long = f .long; fine = λ n. cell-ok F L n (cellAt T n) (f .fine n); begun = f .begun; closed = λ n t i. go n t i (cellAt T n) refl }
     where
@@ -178,10 +160,10 @@ module _ (F : Flow) (L : Laws F) where
       go n t i (holds x) q =
           let b = cell-in F T n x q in
           let l = f .long in
-          visits-closed (F .nodes) (record { table = T; changed = false }) f e n t (omega arith) i
+          takeNodes-closed (F .nodes) (record { table = T; changed = false }) f e n t (omega arith) i
 
-  pub fair-tightest : (T : Table F) → Fair T → Passing F T → Tightest F T
-  fair-tightest T f p = record { passes = p; least = f .under }
+  pub underway-tightest : (T : Table F) → Underway F L T → Passing F T → Tightest F T
+  underway-tightest T f p = record { passing = p; least = f .under }
 
   before-at : cellAt (before F) (F .entry) ≡ holds (F .start)
   unfolding before
@@ -207,32 +189,32 @@ module _ (F : Flow) (L : Laws F) where
   unfolding before
   before-length = length-set (replicate (F .nodes) blank) (F .entry) (holds (F .start)) ∙ length-replicate (F .nodes) blank
 
-  pub before-fair : Fair (before F)
-  before-fair = record {
+  pub before-underway : Underway F L (before F)
+  before-underway = record {
     long = before-length;
-    fine = before-all (λ m c. real F L m c) (L .real-start) (λ m. tt);
+    fine = before-all (λ m c. CellReal F L m c) (L .real-start) (λ m. tt);
     begun = rw before-at (L .below-refl (F .start));
     under = λ P p. before-all (λ m c. CellBelow F c (cellAt P m)) (p .begun) (λ m. tt);
   }
 
   -- 1. Every table that passes reach from the first is below every table that passes.
-  pub after-fair : (k : ℕ) → Fair (afterPasses F k)
+  pub afterPasses-underway : (k : ℕ) → Underway F L (afterPasses F k)
   unfolding afterPasses
-  after-fair zero = before-fair
-  after-fair (suc k) = pass-fair (afterPasses F k) (after-fair k)
+  afterPasses-underway zero = before-underway
+  afterPasses-underway (suc k) = pass-underway (afterPasses F k) (afterPasses-underway k)
 
-  settleFrom-tight : (f c : ℕ) (T : Table F) (b : Bool) → Fair T → (b ≡ false → Passing F T) → (k : ℕ) (U : Table F) → settleFrom F f c T b ≡ settled k U → Tightest F U
+  settleFrom-tight : (f c : ℕ) (T : Table F) (b : Bool) → Underway F L T → (b ≡ false → Passing F T) → (k : ℕ) (U : Table F) → settleFrom F f c T b ≡ settled k U → Tightest F U
   unfolding settleFrom
-  settleFrom-tight zero c T false f p k U e = let q : T ≡ U = cc in subst (Tightest F) q (fair-tightest T f (p refl))
+  settleFrom-tight zero c T false f p k U e = let q : T ≡ U = cc in subst (Tightest F) q (underway-tightest T f (p refl))
   settleFrom-tight zero c T true f p k U e = let z : _≡_ {A = ℕ} 0 1 = cc in absurd (omega arith)
-  settleFrom-tight (suc n) c T false f p k U e = let q : T ≡ U = cc in subst (Tightest F) q (fair-tightest T f (p refl))
+  settleFrom-tight (suc n) c T false f p k U e = let q : T ≡ U = cc in subst (Tightest F) q (underway-tightest T f (p refl))
   settleFrom-tight (suc n) c T true f p k U e =
-      settleFrom-tight n (suc c) (pass F T .table) (pass F T .changed) (pass-fair T f) (λ m. rw (pass-still T f m) (still-passes T f m)) k U e
+      settleFrom-tight n (suc c) (pass F T .table) (pass F T .changed) (pass-underway T f) (λ m. rw (pass-still T f m) (still-passes T f m)) k U e
 
   -- The settled table is the tightest that passes.
   pub settle-tight : (f k : ℕ) (U : Table F) → settle F f ≡ settled k U → Tightest F U
   unfolding settle
-  settle-tight f k U e = settleFrom-tight f zero (before F) true before-fair (λ q. absurd (true≢false q)) k U e
+  settle-tight f k U e = settleFrom-tight f zero (before F) true before-underway (λ q. absurd (true≢false q)) k U e
 
   cell-both : (c d : Cell (F .State)) → CellOk F c → CellOk F d → CellBelow F c d → CellBelow F d c → c ≡ d
   cell-both blank blank o p h k = refl
@@ -243,5 +225,5 @@ module _ (F : Flow) (L : Laws F) where
   -- There is one tightest table.
   pub tightest-same : (T U : Table F) → Tightest F T → Tightest F U → T ≡ U
   tightest-same T U t u =
-      ext-getD blank T U (t .passes .long ∙ sym (u .passes .long))
-      (λ n h. cell-both (cellAt T n) (cellAt U n) (t .passes .fine n) (u .passes .fine n) (t .least U (u .passes) n) (u .least T (t .passes) n))
+      ext-getD blank T U (t .passing .long ∙ sym (u .passing .long))
+      (λ n h. cell-both (cellAt T n) (cellAt U n) (t .passing .fine n) (u .passing .fine n) (t .least U (u .passing) n) (u .least T (t .passing) n))

@@ -12,6 +12,7 @@ use Rattle.lists.specs.Lists.{Among}
 use Rattle.flow.specs.Flow.{Cell, blank, holds, cellAt, Flow, Table}
 use Rattle.flow.specs.Passing.{CellBelow, leaving, Passing}
 use Rattle.flow.specs.Walk.{Onward, visitsOf, inTurn, AtTouches, Machine, AtNodes}
+use Rattle.flow.specs.Truths.{Truthful, SaysOf, SaysAt}
 use Rattle.flow.proofs.Turns.{inTurn-keeps}
 
 -- ---- the touches of one node
@@ -28,52 +29,35 @@ module _ {E S C : Type 0} (touchS : E → S → S) (touchC : E → C → C) (Tru
 
 -- ---- along a walk
 
-module _ (F : Flow) {E : Type 0} (M : Machine E) (touches : ℕ → List E) (touched : E → F .State → F .State) (True : F .State → M .Contents → Type 0) where
-  -- What is asked: a step is the node's touches in turn, one touch keeps what is true, and a state that allows more says less.
-  pub record Truthful : Type 0 where
-    pub arrows-in : (n t : ℕ) → n < F .nodes → Among t (F .arrows n) → t < F .nodes
-    pub step-is : (n : ℕ) → n < F .nodes → (a : F .State) → F .step n a ≡ inTurn touched (touches n) a
-    pub one-touch : (n : ℕ) → n < F .nodes → (e : E) → Among e (touches n) → (a : F .State) (c : M .Contents) → True a c → True (touched e a) (M .act e c)
-    pub weaker : (a b : F .State) (c : M .Contents) → F .Below a b → True a c → True b c
-
-  -- A marked node's state is true of these contents.
-  abbrev pub SaysOf : Cell (F .State) → M .Contents → Type 0
-  SaysOf blank c = ⊥
-  SaysOf (holds a) c = True a c
-
-  module _ (truthful : Truthful) where
-    cell-weaker : (x y : Cell (F .State)) (c : M .Contents) → CellBelow F x y → SaysOf x c → SaysOf y c
+module _ (F : Flow) {E : Type 0} (M : Machine E) (touches : ℕ → List E) (afterTouch : E → F .State → F .State) (True : F .State → M .Contents → Type 0) where
+  module _ (truthful : Truthful F M touches afterTouch True) where
+    cell-weaker : (x y : Cell (F .State)) (c : M .Contents) → CellBelow F x y → SaysOf F M True x c → SaysOf F M True y c
     cell-weaker blank y c below says = absurd says
     cell-weaker (holds a) blank c below says = absurd below
-    cell-weaker (holds a) (holds b) c below says = truthful .weaker a b c below says
+    cell-weaker (holds a) (holds b) c below says = truthful .below-true a b c below says
 
-    cell-leaves : (n : ℕ) → n < F .nodes → (x : Cell (F .State)) (c : M .Contents) → SaysOf x c → SaysOf (leaving F n x) (inTurn (M .act) (touches n) c)
+    cell-leaves : (n : ℕ) → n < F .nodes → (x : Cell (F .State)) (c : M .Contents) → SaysOf F M True x c → SaysOf F M True (leaving F n x) (inTurn (M .act) (touches n) c)
     cell-leaves n h blank c says = absurd says
     cell-leaves n h (holds a) c says =
         subst (λ (b : F .State). True b (inTurn (M .act) (touches n) c)) (sym (truthful .step-is n h a))
-        (inTurn-keeps touched (M .act) True (touches n) (truthful .one-touch n h) a c says)
-
-    -- What a table says at a node that is one.
-    pub record SaysAt (table : Table F) (n : ℕ) (c : M .Contents) : Type 0 where
-      pub inside : n < F .nodes
-      pub says : SaysOf (cellAt table n) c
+        (inTurn-keeps afterTouch (M .act) True (touches n) (truthful .one-touch n h) a c says)
 
     pub walk-true : (table : Table F) → Passing F table → (n : ℕ) (ts : List ℕ) (c : M .Contents)
-        → SaysAt table n c → Onward (F .arrows) n ts → AtNodes M (SaysAt table) touches n ts c
+        → SaysAt F M True table n c → Onward (F .arrows) n ts → AtNodes M (SaysAt F M True table) touches n ts c
     walk-true table passing n [] c here on = here
     walk-true table passing n (t ∷ ts) c here on = (here, walk-true table passing t ts (inTurn (M .act) (touches n) c) next (on .1))
       where
-        next : SaysAt table t (inTurn (M .act) (touches n) c)
+        next : SaysAt F M True table t (inTurn (M .act) (touches n) c)
         next =
             record {
               inside = truthful .arrows-in n t (here .inside) (on .0);
-              says = cell-weaker (leaving F n (cellAt table n)) (cellAt table t) (inTurn (M .act) (touches n) c) (passing .closed n t (on .0)) (cell-leaves n (here .inside) (cellAt table n) c (here .says));
+              cell-says = cell-weaker (leaving F n (cellAt table n)) (cellAt table t) (inTurn (M .act) (touches n) c) (passing .closed n t (on .0)) (cell-leaves n (here .inside) (cellAt table n) c (here .cell-says));
             }
 
-    -- "the entry is marked": where the start is true of the contents, so is the entry's row.
-    pub walk-begins : (table : Table F) → Passing F table → F .entry < F .nodes → (c : M .Contents) → True (F .start) c → SaysAt table (F .entry) c
+    -- Rule 7.5, along a walk: where the start is true of the contents, so is the entry's row.
+    pub walk-begins : (table : Table F) → Passing F table → F .entry < F .nodes → (c : M .Contents) → True (F .start) c → SaysAt F M True table (F .entry) c
     walk-begins table passing inside c says =
-        record { inside = inside; says = cell-weaker (holds (F .start)) (cellAt table (F .entry)) c (passing .begun) says }
+        record { inside = inside; cell-says = cell-weaker (holds (F .start)) (cellAt table (F .entry)) c (passing .begun) says }
 
 -- ---- what holds at each node
 
@@ -95,9 +79,9 @@ module _ {E : Type 0} (M : Machine E) (touches : ℕ → List E) (P : ℕ → M 
   elsewhere : (n : ℕ) (c : M .Contents) → P n c → _≡_ {A = ℕ} (cond (eqb n k) 1 0) 0
   elsewhere n c p = rw (ne-eqb n k (λ e. never c (subst (λ (j : ℕ). P j c) e p)))
 
-  pub unvisited : (n : ℕ) (ts : List ℕ) (c : M .Contents) → AtNodes M P touches n ts c → visitsOf k (n ∷ ts) ≡ 0
-  unvisited n [] c p = let here = elsewhere n c p in omega arith
-  unvisited n (t ∷ ts) c p =
+  pub visitsOf-zero : (n : ℕ) (ts : List ℕ) (c : M .Contents) → AtNodes M P touches n ts c → visitsOf k (n ∷ ts) ≡ 0
+  visitsOf-zero n [] c p = let here = elsewhere n c p in omega arith
+  visitsOf-zero n (t ∷ ts) c p =
       let here = elsewhere n c (p .0) in
-      let rest = unvisited t ts (inTurn (M .act) (touches n) c) (p .1) in
+      let rest = visitsOf-zero t ts (inTurn (M .act) (touches n) c) (p .1) in
       omega arith

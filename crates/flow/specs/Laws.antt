@@ -1,4 +1,4 @@
--- What the theory of passes asks of a flow. Nothing here is document 01's; ages keep these laws (`ages`).
+-- What the theory of passes asks of a flow. Nothing here is a rule of the tool; ages keep these laws (`ages`).
 -- `Ok` is what a passing table has at each marked node, whoever made the table. `Real n` is what the states have, besides, that
 -- passes bring to node n: for a step that keeps the order only from such states, and for facts that are to be carried along. Where
 -- neither is needed, `Real n` is `Ok`.
@@ -6,7 +6,7 @@ use mathlib.Core.Path.{_≡_}
 use mathlib.Core.Bool.{true, false}
 use Prim.Native.Nat.{ℕ, _≤_, _<_}
 use Rattle.lists.specs.Lists.{Among}
-use Rattle.flow.specs.Flow.{Flow}
+use Rattle.flow.specs.Flow.{Cell, blank, holds, Flow}
 
 pub record Laws (F : Flow) : Type 1 where
   pub Real : ℕ → F .State → Type 0
@@ -32,3 +32,9 @@ pub record Height (F : Flow) (L : Laws F) : Type 0 where
   pub bound : ℕ
   pub bounded : (n : ℕ) (a : F .State) → L .Real n a → height a ≤ bound
   pub grows : (n : ℕ) (a b : F .State) → L .Real n a → L .Real n b → F .same (F .meet a b) a ≡ false → height a < height (F .meet a b)
+
+-- `Real`, of cells: a blank one is.
+module _ (F : Flow) (L : Laws F) where
+  abbrev pub CellReal : ℕ → Cell (F .State) → Type 0
+  CellReal n blank = Unit {0}
+  CellReal n (holds a) = L .Real n a

@@ -3,3 +3,5 @@ pub mod Passing
 pub mod Pass
 pub mod Laws
 pub mod Walk
+pub mod Underway
+pub mod Truths

@@ -1,5 +1,6 @@
--- Walks, and what a machine does and pays along one. Document 01, "The plain cache" (a walk) and "Totals" (what the machine pays).
--- A node has a list of touches; a machine begins with some contents, acts on them at each touch, and finds each a hit or a miss.
+-- Walks, and what a machine does and pays along one. Rules 2.7, 5.1 to 5.3 and 7.9, for any nodes, any touches and any machine: it begins with
+-- some contents, acts on them at each touch, and finds each a hit or a miss.
+-- Choices: a walk is the entry and the list of the nodes after it; it reaches the node where it ends, since it can end at any.
 use mathlib.Core.Path.{_≡_}
 use mathlib.Core.Bool.{Bool, cond}
 use mathlib.Core.List.{List, [], _∷_}
@@ -9,31 +10,32 @@ use Rattle.lists.specs.Lists.{Among}
 
 -- ---- walks
 
--- The nodes after n, "each next node is an arrow of the one before".
+-- Rule 5.1: from n on, an arrow leads to each node of the list from the one before it.
 abbrev pub Onward : (ℕ → List ℕ) → ℕ → List ℕ → Type 0
 Onward arrows n [] = Unit {0}
 Onward arrows n (t ∷ ts) = Among t (arrows n) × Onward arrows t ts
 
--- "A walk has at least one node, begins at the entry, and each next node is an arrow of the one before. It may stop anywhere."
--- It is the entry and the nodes after it.
+-- Rule 5.1: the entry, and the nodes after it.
 abbrev pub Walk : (ℕ → List ℕ) → ℕ → List ℕ → Type 0
 Walk arrows entry ts = Onward arrows entry ts
 
+-- Rule 5.2: the node where a walk from n ends.
 abbrev pub lastOf : ℕ → List ℕ → ℕ
 lastOf n [] = n
 lastOf n (t ∷ ts) = lastOf t ts
 
--- A walk reaches a node: it ends there.
+-- Rules 5.2 and 7.9: some walk ends at the node.
 abbrev pub Reached : (ℕ → List ℕ) → ℕ → ℕ → Type 0
 Reached arrows entry n = (ts : List ℕ) × (Walk arrows entry ts × (lastOf entry ts ≡ n))
 
--- How often a node stands in a list of nodes.
+-- Rule 5.2: how often a node stands in a list of nodes.
 abbrev pub visitsOf : ℕ → List ℕ → ℕ
 visitsOf n [] = 0
 visitsOf n (k ∷ ks) = cond (eqb k n) 1 0 + visitsOf n ks
 
 -- ---- touches in turn
 
+-- Rule 2.7: a bare step has no touches, and x comes out as it went in.
 abbrev pub inTurn : {E X : Type 0} → (E → X → X) → List E → X → X
 inTurn act [] x = x
 inTurn act (e ∷ es) x = inTurn act es (act e x)
@@ -45,6 +47,7 @@ AtTouches stepS stepC P (e ∷ es) s c = P e s c × AtTouches stepS stepC P es (
 
 -- ---- machines
 
+-- Rule 5.3, of any contents: what is carried, what a touch does to it, and whether it hits.
 pub record Machine (E : Type 0) : Type 1 where
   pub Contents : Type 0
   -- what a walk may begin with
@@ -53,18 +56,18 @@ pub record Machine (E : Type 0) : Type 1 where
   pub finds : E → Contents → Bool
 
 module _ {E : Type 0} (M : Machine E) where
-  -- "pays the hit or miss cost at each reference and nothing at a bare step"
+  -- Rule 5.3: what it pays at a node.
   abbrev pub paidAt : ℕ → ℕ → List E → M .Contents → ℕ
   paidAt hit miss [] c = 0
   paidAt hit miss (e ∷ es) c = cond (M .finds e c) hit miss + paidAt hit miss es (M .act e c)
 
-  -- What it pays along the walk n, ts, begun with these contents.
+  -- Rule 5.3: what it pays along the walk n, ts, begun with these contents.
   abbrev pub paid : ℕ → ℕ → (ℕ → List E) → ℕ → List ℕ → M .Contents → ℕ
   paid hit miss touches n [] c = paidAt hit miss (touches n) c
   paid hit miss touches n (t ∷ ts) c =
       paidAt hit miss (touches n) c + paid hit miss touches t ts (inTurn (M .act) (touches n) c)
 
-  -- P holds at each node of the walk n, ts, with the contents that the machine arrives with.
+  -- P holds at each node of the walk n, ts, with the contents that rule 5.3 carries there: the form of demand 3's "at each node".
   abbrev pub AtNodes : (ℕ → M .Contents → Type 0) → (ℕ → List E) → ℕ → List ℕ → M .Contents → Type 0
   AtNodes P touches n [] c = P n c
   AtNodes P touches n (t ∷ ts) c = P n c × AtNodes P touches t ts (inTurn (M .act) (touches n) c)

@@ -4,13 +4,9 @@ use mathlib.Core.Bool.{false}
 use mathlib.Core.List.{List, [], _∷_}
 use lib.ListN.{replicate, length-replicate}
 use Rattle.flow.specs.Flow.{Cell, blank, holds, cellAt, Flow, Table}
-use Rattle.flow.specs.Pass.{Run, met, metAt, put, putAll, visitWith, visit, visits, pass, before, afterPasses}
-use Rattle.layout.proofs.Shapes.{CellFits, Fitted, fitted-set}
-
-pub record Keeps (F : Flow) (Fits : F .State → Type 0) : Type 0 where
-  pub start : Fits (F .start)
-  pub step : (n : ℕ) (a : F .State) → Fits a → Fits (F .step n a)
-  pub meet : (a b : F .State) → Fits a → Fits b → Fits (F .meet a b)
+use Rattle.flow.specs.Pass.{Run, met, metAt, put, putAll, takeWith, takeNode, takeNodes, pass, before, afterPasses}
+use Rattle.layout.specs.Kinds.{CellFits, Fitted, FlowFits}
+use Rattle.layout.proofs.Fitting.{fitted-set}
 
 blanks-fit : {X : Type 0} (Fits : X → Type 0) (n i : ℕ) → CellFits Fits (cellAt (replicate n blank) i)
 blanks-fit Fits zero i = tt
@@ -19,45 +15,45 @@ blanks-fit Fits (suc n) (suc i) = blanks-fit Fits n i
 
 -- The table without a mark.
 pub blanks-fitted : {X : Type 0} (Fits : X → Type 0) (nodes : ℕ) → Fitted Fits nodes (replicate nodes blank)
-blanks-fitted Fits nodes = record { long = length-replicate nodes blank; rows = blanks-fit Fits nodes }
+blanks-fitted Fits nodes = record { long = length-replicate nodes blank; cells-fit = blanks-fit Fits nodes }
 
-module _ {F : Flow} {Fits : F .State → Type 0} (keeps : Keeps F Fits) where
+module _ {F : Flow} {Fits : F .State → Type 0} (keeps : FlowFits F Fits) where
   pub met-fits : (c : Cell (F .State)) (a : F .State) → CellFits Fits c → Fits a → CellFits Fits (met F c a)
   unfolding met
   met-fits blank a f h = h
-  met-fits (holds b) a f h = keeps .meet b a f h
+  met-fits (holds b) a f h = keeps .meet-fits b a f h
 
   pub put-fitted : (a : F .State) (t : ℕ) (run : Run (F .State)) → Fits a → Fitted Fits (F .nodes) (run .table) → Fitted Fits (F .nodes) (put F a t run .table)
   unfolding put metAt
   put-fitted a t run h s =
-      fitted-set s t (met F (cellAt (run .table) t) a) (met-fits (cellAt (run .table) t) a (s .rows t) h)
+      fitted-set s t (met F (cellAt (run .table) t) a) (met-fits (cellAt (run .table) t) a (s .cells-fit t) h)
 
   pub putAll-fitted : (a : F .State) (ts : List ℕ) (run : Run (F .State)) → Fits a → Fitted Fits (F .nodes) (run .table) → Fitted Fits (F .nodes) (putAll F a ts run .table)
   unfolding putAll
   putAll-fitted a [] run h s = s
   putAll-fitted a (t ∷ ts) run h s = putAll-fitted a ts (put F a t run) h (put-fitted a t run h s)
 
-  pub visitWith-fitted : (n : ℕ) (c : Cell (F .State)) (run : Run (F .State)) → CellFits Fits c → Fitted Fits (F .nodes) (run .table) → Fitted Fits (F .nodes) (visitWith F n c run .table)
-  unfolding visitWith
-  visitWith-fitted n blank run h s = s
-  visitWith-fitted n (holds a) run h s = putAll-fitted (F .step n a) (F .arrows n) run (keeps .step n a h) s
+  pub takeWith-fitted : (n : ℕ) (c : Cell (F .State)) (run : Run (F .State)) → CellFits Fits c → Fitted Fits (F .nodes) (run .table) → Fitted Fits (F .nodes) (takeWith F n c run .table)
+  unfolding takeWith
+  takeWith-fitted n blank run h s = s
+  takeWith-fitted n (holds a) run h s = putAll-fitted (F .step n a) (F .arrows n) run (keeps .step-fits n a h) s
 
-  pub visit-fitted : (n : ℕ) (run : Run (F .State)) → Fitted Fits (F .nodes) (run .table) → Fitted Fits (F .nodes) (visit F n run .table)
-  unfolding visit
-  visit-fitted n run s = visitWith-fitted n (cellAt (run .table) n) run (s .rows n) s
+  pub takeNode-fitted : (n : ℕ) (run : Run (F .State)) → Fitted Fits (F .nodes) (run .table) → Fitted Fits (F .nodes) (takeNode F n run .table)
+  unfolding takeNode
+  takeNode-fitted n run s = takeWith-fitted n (cellAt (run .table) n) run (s .cells-fit n) s
 
-  pub visits-fitted : (n : ℕ) (run : Run (F .State)) → Fitted Fits (F .nodes) (run .table) → Fitted Fits (F .nodes) (visits F n run .table)
-  unfolding visits
-  visits-fitted zero run s = s
-  visits-fitted (suc n) run s = visit-fitted n (visits F n run) (visits-fitted n run s)
+  pub takeNodes-fitted : (n : ℕ) (run : Run (F .State)) → Fitted Fits (F .nodes) (run .table) → Fitted Fits (F .nodes) (takeNodes F n run .table)
+  unfolding takeNodes
+  takeNodes-fitted zero run s = s
+  takeNodes-fitted (suc n) run s = takeNode-fitted n (takeNodes F n run) (takeNodes-fitted n run s)
 
   pub pass-fitted : (T : Table F) → Fitted Fits (F .nodes) T → Fitted Fits (F .nodes) (pass F T .table)
   unfolding pass
-  pass-fitted T s = visits-fitted (F .nodes) (record { table = T; changed = false }) s
+  pass-fitted T s = takeNodes-fitted (F .nodes) (record { table = T; changed = false }) s
 
   pub before-fitted : Fitted Fits (F .nodes) (before F)
   unfolding before
-  before-fitted = fitted-set (blanks-fitted Fits (F .nodes)) (F .entry) (holds (F .start)) (keeps .start)
+  before-fitted = fitted-set (blanks-fitted Fits (F .nodes)) (F .entry) (holds (F .start)) (keeps .start-fits)
 
   pub afterPasses-fitted : (k : ℕ) → Fitted Fits (F .nodes) (afterPasses F k)
   unfolding afterPasses

@@ -10,30 +10,18 @@ use Rattle.lists.specs.Loops.{patch}
 use Rattle.lists.proofs.Listed.{listOf-same, listOf-at, take-agree}
 use Rattle.lists.proofs.Joined.{length-written, getD-written, written-written, map-set, map-replicate, length-rows, getD-rows, rows-replicate, row-in, rows-stored}
 use Rattle.flow.specs.Flow.{Cell, blank, holds, cellAt}
-use Rattle.layout.specs.Rows.{markOf, marksOf, rowOf, rowsOf, rowAt}
-use Rattle.layout.proofs.Shapes.{CellFits, Fitted}
-
--- One kind of row of a state: the numbers, and that a state that fits has so many of them.
-pub record Kind {X : Type 0} (Fits : X → Type 0) : Type 0 where
-  pub count : ℕ
-  pub numbers : X → List ℕ
-  pub fits : (a : X) → Fits a → length (numbers a) ≡ count
-
-abbrev pub kindRow : {X : Type 0} {Fits : X → Type 0} → Kind Fits → Cell X → List ℕ
-kindRow K = rowOf (K .count) (K .numbers)
-
-abbrev pub kindRows : {X : Type 0} {Fits : X → Type 0} → Kind Fits → List (Cell X) → List ℕ
-kindRows K = rowsOf (K .count) (K .numbers)
+use Rattle.layout.specs.Rows.{markOf, marksOf, rowAt}
+use Rattle.layout.specs.Kinds.{CellFits, Fitted, Kind, kindRow, kindRows}
 
 -- ---- rows of one kind
 
 pub row-fits : {X : Type 0} {Fits : X → Type 0} (K : Kind Fits) (c : Cell X) → CellFits Fits c → length (kindRow K c) ≡ K .count
 row-fits K blank h = length-replicate (K .count) _
-row-fits K (holds a) h = K .fits a h
+row-fits K (holds a) h = K .length-numbers a h
 
 module _ {X : Type 0} {Fits : X → Type 0} (K : Kind Fits) {nodes : ℕ} {T : List (Cell X)} (s : Fitted Fits nodes T) where
   rowed : (n : ℕ) → length (kindRow K (cellAt T n)) ≡ K .count
-  rowed n = row-fits K (cellAt T n) (s .rows n)
+  rowed n = row-fits K (cellAt T n) (s .cells-fit n)
 
   pub rows-long : length (kindRows K T) ≡ nodes * K .count
   rows-long = length-rows (kindRow K) (K .count) blank T rowed ∙ ap (λ (n : ℕ). n * K .count) (s .long)
@@ -76,9 +64,9 @@ pub mark-plain : {X : Type 0} (c : Cell X) → markOf c ≤ 1
 mark-plain blank = omega arith
 mark-plain (holds a) = omega arith
 
-pub unmarked : {X : Type 0} (c : Cell X) → markOf c ≡ 0 → c ≡ blank
-unmarked blank e = refl
-unmarked (holds a) e = absurd (omega arith)
+pub mark-zero : {X : Type 0} (c : Cell X) → markOf c ≡ 0 → c ≡ blank
+mark-zero blank e = refl
+mark-zero (holds a) e = absurd (omega arith)
 
 module _ {X : Type 0} {Fits : X → Type 0} {nodes : ℕ} {T : List (Cell X)} (s : Fitted Fits nodes T) where
   pub marks-long : length (marksOf T) ≡ nodes
@@ -96,8 +84,8 @@ module _ {X : Type 0} {Fits : X → Type 0} {nodes : ℕ} {T : List (Cell X)} (s
       ∙ (rw (map-set markOf T t (holds a), length-set (marksOf T) t 1))
 
   -- A state put in the place of another keeps its mark.
-  pub mark-kept : (l : List ℕ) (t : ℕ) (old a : X) → cellAt T t ≡ holds old → written (marksOf T) l ≡ written (marksOf (set T t (holds a))) l
-  mark-kept l t old a stands =
+  pub mark-stays : (l : List ℕ) (t : ℕ) (old a : X) → cellAt T t ≡ holds old → written (marksOf T) l ≡ written (marksOf (set T t (holds a))) l
+  mark-stays l t old a stands =
       ap (λ (m : List ℕ). written m l) (sym (map-set-same markOf T t (holds a) blank (ap markOf (sym stands))))
 
 pub marks-over : {X : Type 0} {Fits : X → Type 0} {nodes : ℕ} {T U : List (Cell X)} → Fitted Fits nodes T → Fitted Fits nodes U → (l : List ℕ)

@@ -1,4 +1,4 @@
-pub mod Shapes
+pub mod Fitting
 pub mod Keeping
 pub mod Laid
 pub mod Meeting

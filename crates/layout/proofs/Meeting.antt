@@ -17,8 +17,8 @@ use Rattle.lists.proofs.Loops.{patch-turn-by, any-turn-by}
 use Rattle.lists.proofs.Same.{any-differs}
 use Rattle.flow.specs.Flow.{Cell, holds, cellAt}
 use Rattle.layout.specs.Joins.{joinedRow, rowMoves, RowJoined}
-use Rattle.layout.proofs.Shapes.{Fitted}
-use Rattle.layout.proofs.Laid.{Kind, kindRows, row-read, row-stored}
+use Rattle.layout.specs.Kinds.{Fitted, Kind, kindRows}
+use Rattle.layout.proofs.Laid.{row-read, row-stored}
 
 -- ---- a turn of a loop that joins a row
 
@@ -28,29 +28,29 @@ pub joined-turn : (join : ℕ → ℕ → ℕ) (moves : ℕ → ℕ → Bool) (b
 joined-turn join moves base n new changed l after flag v next so-far here there =
     record {
       row = patch-turn-by l base n (λ j x. join x (new j)) after v (so-far .row) here;
-      moved = any-turn-by l base n (λ j. join (getD l (base + j) 0) (new j)) after (λ j x. moves x (new j)) changed flag next (so-far .row) (so-far .moved) there;
+      flag-is = any-turn-by l base n (λ j. join (getD l (base + j) 0) (new j)) after (λ j x. moves x (new j)) changed flag next (so-far .row) (so-far .flag-is) there;
     }
 
 -- ---- when a number moves
 
 -- The test tells whether joining gives another number than the old.
-abbrev pub Tells : (ℕ → ℕ → ℕ) → (ℕ → ℕ → Bool) → Type 0
-Tells join moves = (old new : ℕ) → moves old new ≡ not (eqb (join old new) old)
+abbrev TellsMoves : (ℕ → ℕ → ℕ) → (ℕ → ℕ → Bool) → Type 0
+TellsMoves join moves = (old new : ℕ) → moves old new ≡ not (eqb (join old new) old)
 
-pub larger-tells : Tells max ltb
-larger-tells old new =
+pub max-moves : TellsMoves max ltb
+max-moves old new =
     ⊎-elim (λ (h : old < new). rw (lt-ltb old new h, ne-eqb (max old new) old (λ e. omega arith)))
     (λ (h : new ≤ old). rw (le-ltb old new h, eq-eqb (max old new) old (omega arith))) (below-or old new)
 
-pub smaller-tells : Tells min (λ old new. ltb new old)
-smaller-tells old new =
+pub min-moves : TellsMoves min (λ old new. ltb new old)
+min-moves old new =
     ⊎-elim (λ (h : new < old). rw (lt-ltb new old h, ne-eqb (min old new) old (λ e. omega arith)))
     (λ (h : old ≤ new). rw (le-ltb new old h, eq-eqb (min old new) old (omega arith))) (below-or new old)
 
 -- ---- a row met into a cell
 
 -- Numbers that are the same at each place of a row; those that come may be more.
-abbrev pub Agreeing : ℕ → (ℕ → ℕ) → List ℕ → Type 0
+abbrev Agreeing : ℕ → (ℕ → ℕ) → List ℕ → Type 0
 Agreeing count new row = (j : ℕ) → j < count → new j ≡ getD row j 0
 
 module _ {X : Type 0} {Fits : X → Type 0} (K : Kind Fits) {nodes : ℕ} {T : List (Cell X)} (s : Fitted Fits nodes T) (l : List ℕ)
@@ -58,7 +58,7 @@ module _ {X : Type 0} {Fits : X → Type 0} (K : Kind Fits) {nodes : ℕ} {T : L
   -- A row stored as it is.
   pub row-taken : Fits a → patch (written (kindRows K T) l) (t * K .count) (K .count) new ≡ written (kindRows K (set T t (holds a))) l
   row-taken fits =
-      row-stored K s l t inside new (holds a) (listOf-is (K .count) (K .numbers a) 0 (K .fits a fits) ∙ sym (listOf-same (K .count) new _ agree))
+      row-stored K s l t inside new (holds a) (listOf-is (K .count) (K .numbers a) 0 (K .length-numbers a fits) ∙ sym (listOf-same (K .count) new _ agree))
 
   module _ (old : X) (stands : cellAt T t ≡ holds old) (join : ℕ → ℕ → ℕ) (met : X)
       (meets : K .numbers met ≡ listOf (K .count) (λ j. join (getD (K .numbers old) j 0) (getD (K .numbers a) j 0))) where
@@ -71,9 +71,9 @@ module _ {X : Type 0} {Fits : X → Type 0} (K : Kind Fits) {nodes : ℕ} {T : L
         row-stored K s l t inside _ (holds met) (meets ∙ listOf-same (K .count) _ _ (λ j h. rw (was j h, agree j h)))
 
     -- The flag is what it was, or the row is another.
-    pub row-moved : Fits old → (moves : ℕ → ℕ → Bool) → Tells join moves → (changed : Bool)
+    pub row-moved : Fits old → (moves : ℕ → ℕ → Bool) → TellsMoves join moves → (changed : Bool)
         → rowMoves moves changed (t * K .count) (K .count) new (written (kindRows K T) l) ≡ (changed || not (sameRow (K .numbers met) (K .numbers old)))
     row-moved fits moves tells changed =
         any-differs changed (K .count) _ (λ j. join (getD (K .numbers old) j 0) (getD (K .numbers a) j 0)) (λ j. getD (K .numbers old) j 0)
         (λ j h. rw (was j h, agree j h) (tells (getD (K .numbers old) j 0) (getD (K .numbers a) j 0)))
-        ∙ (λ i. changed || not (sameRow (sym meets i) (sym (listOf-is (K .count) (K .numbers old) 0 (K .fits old fits)) i)))
+        ∙ (λ i. changed || not (sameRow (sym meets i) (sym (listOf-is (K .count) (K .numbers old) 0 (K .length-numbers old fits)) i)))

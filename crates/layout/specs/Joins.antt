@@ -1,5 +1,5 @@
--- A row of numbers met, place by place, into a row of a lent list: what stands there then, and whether any of it moved. Nothing here is
--- document 01's: contracts of inner functions and their loops speak of it, and laws lead from it to the meeting of states.
+-- A row of numbers met, place by place, into a row of a lent list: what stands there then, and whether any of it moved.
+-- Nothing here is a rule of the tool: contracts of inner functions and their loops speak of it, and laws lead from it to the meeting of states.
 use mathlib.Core.Bool.{Bool}
 use mathlib.Core.List.{List}
 use mathlib.Core.Path.{_≡_}
@@ -18,4 +18,4 @@ rowMoves moves changed base count new l = any changed count (λ j. moves (getD l
 -- Both, of a list and a flag that were `l` and `changed`.
 pub record RowJoined (join : ℕ → ℕ → ℕ) (moves : ℕ → ℕ → Bool) (base count : ℕ) (new : ℕ → ℕ) (changed : Bool) (l after : List ℕ) (flag : Bool) : Type 0 where
   pub row : after ≡ joinedRow join base count new l
-  pub moved : flag ≡ rowMoves moves changed base count new l
+  pub flag-is : flag ≡ rowMoves moves changed base count new l

@@ -9,7 +9,8 @@ use native.Mathlib.Omega.{arith}
 use native.Mathlib.Decide.{ℕ-discrete}
 use borrow.Author.Tests.{ltb-false, le-ltb}
 use lib.Dec.{ltb}
-use Rattle.lists.specs.Choice.{Rule, _⇒_, firstRule, NoneApplies, FirstApplies, firstFrom, first, every}
+use Rattle.lists.specs.Choice.{Case, _⇒_, firstCase, NoneApplies, FirstApplies, firstFrom, first, every}
+use Rattle.lists.specs.Answers.{everyAnswer}
 
 -- ---- two tests
 
@@ -47,55 +48,51 @@ same-tests false false g h = refl
 -- ---- the first rule
 
 -- Where the whole answers what no rule says, none applies.
-pub none-applies : {X Y : Type 0} (say : X → Y) (rules : List (Rule X)) (y z : Y) → ((x : X) → say x ≡ z → ⊥) → firstRule say rules y ≡ z → NoneApplies rules
+pub none-applies : {X Y : Type 0} (say : X → Y) (cases : List (Case X)) (y z : Y) → ((x : X) → say x ≡ z → ⊥) → firstCase say cases y ≡ z → NoneApplies cases
 none-applies say [] y z never e = tt
-none-applies say ((test ⇒ answer) ∷ rules) y z never e = go test e (none-applies say rules y z never)
+none-applies say ((test ⇒ answer) ∷ cases) y z never e = go test e (none-applies say cases y z never)
   where
-    go : (t : Bool) → cond t (say answer) (firstRule say rules y) ≡ z → (firstRule say rules y ≡ z → NoneApplies rules) → (t ≡ false) × NoneApplies rules
+    go : (t : Bool) → cond t (say answer) (firstCase say cases y) ≡ z → (firstCase say cases y ≡ z → NoneApplies cases) → (t ≡ false) × NoneApplies cases
     go true e rest = absurd (never answer e)
     go false e rest = (refl, rest e)
 
-pub first-otherwise : {X Y : Type 0} (say : X → Y) (rules : List (Rule X)) (y : Y) → NoneApplies rules → firstRule say rules y ≡ y
+pub first-otherwise : {X Y : Type 0} (say : X → Y) (cases : List (Case X)) (y : Y) → NoneApplies cases → firstCase say cases y ≡ y
 first-otherwise say [] y none = refl
-first-otherwise say ((test ⇒ answer) ∷ rules) y none = rw (none .0) (first-otherwise say rules y (none .1))
+first-otherwise say ((test ⇒ answer) ∷ cases) y none = rw (none .0) (first-otherwise say cases y (none .1))
 
-pub first-after : {X Y : Type 0} (say : X → Y) (rules more : List (Rule X)) (y : Y) → NoneApplies rules → firstRule say (rules ++ more) y ≡ firstRule say more y
+pub first-after : {X Y : Type 0} (say : X → Y) (cases more : List (Case X)) (y : Y) → NoneApplies cases → firstCase say (cases ++ more) y ≡ firstCase say more y
 first-after say [] more y none = refl
-first-after say ((test ⇒ answer) ∷ rules) more y none = rw (none .0) (first-after say rules more y (none .1))
+first-after say ((test ⇒ answer) ∷ cases) more y none = rw (none .0) (first-after say cases more y (none .1))
 
 -- A rule that is the first to apply gives the answer, and an answer that a rule gives is the first's.
-pub first-applies : {X Y : Type 0} (say : X → Y) (rules : List (Rule X)) (y : Y) (x : X) → FirstApplies rules x → firstRule say rules y ≡ say x
+pub first-applies : {X Y : Type 0} (say : X → Y) (cases : List (Case X)) (y : Y) (x : X) → FirstApplies cases x → firstCase say cases y ≡ say x
 first-applies say [] y x f = absurd f
-first-applies say ((test ⇒ answer) ∷ rules) y x f = go test f (first-applies say rules y x)
+first-applies say ((test ⇒ answer) ∷ cases) y x f = go test f (first-applies say cases y x)
   where
-    go : (t : Bool) → ((t ≡ true) × (answer ≡ x)) ⊎ ((t ≡ false) × FirstApplies rules x) → (FirstApplies rules x → firstRule say rules y ≡ say x) → cond t (say answer) (firstRule say rules y) ≡ say x
+    go : (t : Bool) → ((t ≡ true) × (answer ≡ x)) ⊎ ((t ≡ false) × FirstApplies cases x) → (FirstApplies cases x → firstCase say cases y ≡ say x) → cond t (say answer) (firstCase say cases y) ≡ say x
     go true (inl e) rest = ap say (e .1)
     go true (inr e) rest = let z : _≡_ {A = ℕ} 0 1 = cc in absurd (omega arith)
     go false (inl e) rest = let z : _≡_ {A = ℕ} 0 1 = cc in absurd (omega arith)
     go false (inr e) rest = rest (e .1)
 
-pub applies-first : {X Y : Type 0} (say : X → Y) (rules : List (Rule X)) (y : Y) (x : X) → ((a b : X) → say a ≡ say b → a ≡ b) → (y ≡ say x → ⊥) → firstRule say rules y ≡ say x → FirstApplies rules x
+pub applies-first : {X Y : Type 0} (say : X → Y) (cases : List (Case X)) (y : Y) (x : X) → ((a b : X) → say a ≡ say b → a ≡ b) → (y ≡ say x → ⊥) → firstCase say cases y ≡ say x → FirstApplies cases x
 applies-first say [] y x apart never e = absurd (never e)
-applies-first say ((test ⇒ answer) ∷ rules) y x apart never e = go test e (applies-first say rules y x apart never)
+applies-first say ((test ⇒ answer) ∷ cases) y x apart never e = go test e (applies-first say cases y x apart never)
   where
-    go : (t : Bool) → cond t (say answer) (firstRule say rules y) ≡ say x → (firstRule say rules y ≡ say x → FirstApplies rules x) → ((t ≡ true) × (answer ≡ x)) ⊎ ((t ≡ false) × FirstApplies rules x)
+    go : (t : Bool) → cond t (say answer) (firstCase say cases y) ≡ say x → (firstCase say cases y ≡ say x → FirstApplies cases x) → ((t ≡ true) × (answer ≡ x)) ⊎ ((t ≡ false) × FirstApplies cases x)
     go true e rest = inl (refl, apart answer x e)
     go false e rest = inr (refl, rest e)
 
-pub first-front : {X : Type 0} (rules more : List (Rule X)) (x : X) → FirstApplies rules x → FirstApplies (rules ++ more) x
+pub first-front : {X : Type 0} (cases more : List (Case X)) (x : X) → FirstApplies cases x → FirstApplies (cases ++ more) x
 first-front [] more x f = absurd f
-first-front ((test ⇒ answer) ∷ rules) more x f = ⊎-elim (λ e. inl e) (λ e. inr (e .0, first-front rules more x (e .1))) f
+first-front ((test ⇒ answer) ∷ cases) more x f = ⊎-elim (λ e. inl e) (λ e. inr (e .0, first-front cases more x (e .1))) f
 
--- Whether every answer that the rules may give passes a test; the one that is given then does.
-abbrev pub everyAnswer : {X : Type 0} → (X → Bool) → List (Rule X) → Bool
-everyAnswer test [] = true
-everyAnswer test ((applies ⇒ answer) ∷ rules) = test answer && everyAnswer test rules
-
-pub answer-passes : {X : Type 0} (test : X → Bool) (rules : List (Rule X)) (x : X) → everyAnswer test rules ≡ true → FirstApplies rules x → test x ≡ true
+-- Where every answer that the rules may give passes a test, the one that is given does.
+pub answer-passes : {X : Type 0} (test : X → Bool) (cases : List (Case X)) (x : X) → everyAnswer test cases ≡ true → FirstApplies cases x → test x ≡ true
 answer-passes test [] x e f = absurd f
-answer-passes test ((applies ⇒ answer) ∷ rules) x e f =
-    let both = and-true (test answer) (everyAnswer test rules) e in
-    ⊎-elim (λ h. ap test (sym (h .1)) ∙ both .0) (λ h. answer-passes test rules x (both .1) (h .1)) f
+answer-passes test ((applies ⇒ answer) ∷ cases) x e f =
+    let both = and-true (test answer) (everyAnswer test cases) e in
+    ⊎-elim (λ h. ap test (sym (h .1)) ∙ both .0) (λ h. answer-passes test cases x (both .1) (h .1)) f
 
 -- ---- the first number that passes
 

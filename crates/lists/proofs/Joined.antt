@@ -46,10 +46,10 @@ among-map f c (x ∷ cells) (inr i) = inr (among-map f c cells i)
 
 module _ {C X : Type 0} (row : C → List X) (count : ℕ) (d : C) where
   -- Each cell, and the one that stands for those past the end, has a row of that length.
-  abbrev pub Rowed : List C → Type 0
+  abbrev Rowed : List C → Type 0
   Rowed cells = (n : ℕ) → length (row (getD cells n d)) ≡ count
 
-  abbrev pub rows : List C → List X
+  abbrev rows : List C → List X
   rows cells = joined (map row cells)
 
   pub length-rows : (cells : List C) → Rowed cells → length (rows cells) ≡ length cells * count

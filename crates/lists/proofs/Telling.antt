@@ -7,7 +7,7 @@ use mathlib.Core.Path.{_≡_, refl, sym, ap, subst, _∙_}
 use native.Mathlib.Omega.{arith}
 use borrow.Author.Tests.{ltb-true, ltb-false, leb-true, leb-false, eqb-true, eqb-false}
 use lib.Dec.{ltb, leb, eqb}
-use Rattle.lists.specs.Choice.{Rule, _⇒_, NoneApplies, FirstApplies}
+use Rattle.lists.specs.Choice.{Case, _⇒_, NoneApplies, FirstApplies}
 use Rattle.lists.specs.Telling.{Tells, AllTell, Numbered, Answered}
 
 -- ---- one test
@@ -52,37 +52,37 @@ fails-false false S h none = refl
 -- ---- rules with numbers that ascend, each test telling when its answer applies
 
 module _ {X : Type 0} (number : X → ℕ) (Applies : X → Type 0) where
-  above : (low : ℕ) (rules : List (Rule X)) → Numbered number low rules → (x : X) → Answered x rules → low < number x
+  above : (low : ℕ) (cases : List (Case X)) → Numbered number low cases → (x : X) → Answered x cases → low < number x
   above low [] n x a = absurd a
-  above low ((test ⇒ answer) ∷ rules) n x (inl e) = subst (λ (y : X). low < number y) e (n .0)
-  above low ((test ⇒ answer) ∷ rules) n x (inr a) = omega (arith, n .0, above (number answer) rules (n .1) x a)
+  above low ((test ⇒ answer) ∷ cases) n x (inl e) = subst (λ (y : X). low < number y) e (n .0)
+  above low ((test ⇒ answer) ∷ cases) n x (inr a) = omega (arith, n .0, above (number answer) cases (n .1) x a)
 
   -- The first that applies does, and none of a smaller number.
-  pub first-only : (low : ℕ) (rules : List (Rule X)) → Numbered number low rules → AllTell Applies rules → (x : X) → FirstApplies rules x → Applies x × ((q : X) → Answered q rules → number q < number x → Applies q → ⊥)
+  pub first-only : (low : ℕ) (cases : List (Case X)) → Numbered number low cases → AllTell Applies cases → (x : X) → FirstApplies cases x → Applies x × ((q : X) → Answered q cases → number q < number x → Applies q → ⊥)
   first-only low [] n tell x f = absurd f
-  first-only low ((test ⇒ answer) ∷ rules) n tell x (inl e) =
+  first-only low ((test ⇒ answer) ∷ cases) n tell x (inl e) =
       (subst Applies (e .1) (tell .0 .0 (e .0)), λ q a less. absurd (none q a less))
     where
-      none : (q : X) → (answer ≡ q) ⊎ Answered q rules → number q < number x → ⊥
+      none : (q : X) → (answer ≡ q) ⊎ Answered q cases → number q < number x → ⊥
       none q (inl d) less = let same : number q ≡ number x = ap number (sym d ∙ e .1) in omega arith
-      none q (inr a) less = let same : number answer ≡ number x = ap number (e .1) in omega (arith, above (number answer) rules (n .1) q a)
-  first-only low ((test ⇒ answer) ∷ rules) n tell x (inr e) =
-      let rest = first-only (number answer) rules (n .1) (tell .1) x (e .1) in
-      (rest .0, λ q a less. ⊎-elim (λ (d : answer ≡ q). λ h. tell .0 .1 (e .0) (subst Applies (sym d) h)) (λ (b : Answered q rules). rest .1 q b less) a)
+      none q (inr a) less = let same : number answer ≡ number x = ap number (e .1) in omega (arith, above (number answer) cases (n .1) q a)
+  first-only low ((test ⇒ answer) ∷ cases) n tell x (inr e) =
+      let rest = first-only (number answer) cases (n .1) (tell .1) x (e .1) in
+      (rest .0, λ q a less. ⊎-elim (λ (d : answer ≡ q). λ h. tell .0 .1 (e .0) (subst Applies (sym d) h)) (λ (b : Answered q cases). rest .1 q b less) a)
 
   -- One that applies, and none of a smaller number, is the first.
-  pub first-given : (low : ℕ) (rules : List (Rule X)) → Numbered number low rules → AllTell Applies rules → (x : X) → Answered x rules → Applies x → ((q : X) → number q < number x → Applies q → ⊥) → FirstApplies rules x
+  pub first-given : (low : ℕ) (cases : List (Case X)) → Numbered number low cases → AllTell Applies cases → (x : X) → Answered x cases → Applies x → ((q : X) → number q < number x → Applies q → ⊥) → FirstApplies cases x
   first-given low [] n tell x a h none = absurd a
-  first-given low ((test ⇒ answer) ∷ rules) n tell x (inl e) h none = inl (holds-true test (Applies answer) (tell .0) (subst Applies (sym e) h), e)
-  first-given low ((test ⇒ answer) ∷ rules) n tell x (inr a) h none =
+  first-given low ((test ⇒ answer) ∷ cases) n tell x (inl e) h none = inl (holds-true test (Applies answer) (tell .0) (subst Applies (sym e) h), e)
+  first-given low ((test ⇒ answer) ∷ cases) n tell x (inr a) h none =
       inr
-      (fails-false test (Applies answer) (tell .0) (none answer (above (number answer) rules (n .1) x a)), first-given (number answer) rules (n .1) (tell .1) x a h none)
+      (fails-false test (Applies answer) (tell .0) (none answer (above (number answer) cases (n .1) x a)), first-given (number answer) cases (n .1) (tell .1) x a h none)
 
-  pub none-given : (rules : List (Rule X)) → AllTell Applies rules → ((q : X) → Applies q → ⊥) → NoneApplies rules
+  pub none-given : (cases : List (Case X)) → AllTell Applies cases → ((q : X) → Applies q → ⊥) → NoneApplies cases
   none-given [] tell none = tt
-  none-given ((test ⇒ answer) ∷ rules) tell none = (fails-false test (Applies answer) (tell .0) (none answer), none-given rules (tell .1) none)
+  none-given ((test ⇒ answer) ∷ cases) tell none = (fails-false test (Applies answer) (tell .0) (none answer), none-given cases (tell .1) none)
 
-  pub none-only : (rules : List (Rule X)) → AllTell Applies rules → NoneApplies rules → (q : X) → Answered q rules → Applies q → ⊥
+  pub none-only : (cases : List (Case X)) → AllTell Applies cases → NoneApplies cases → (q : X) → Answered q cases → Applies q → ⊥
   none-only [] tell none q a h = absurd a
-  none-only ((test ⇒ answer) ∷ rules) tell none q (inl e) h = tell .0 .1 (none .0) (subst Applies (sym e) h)
-  none-only ((test ⇒ answer) ∷ rules) tell none q (inr a) h = none-only rules (tell .1) (none .1) q a h
+  none-only ((test ⇒ answer) ∷ cases) tell none q (inl e) h = tell .0 .1 (none .0) (subst Applies (sym e) h)
+  none-only ((test ⇒ answer) ∷ cases) tell none q (inr a) h = none-only cases (tell .1) (none .1) q a h

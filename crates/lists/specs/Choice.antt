@@ -1,5 +1,6 @@
--- The first rule that applies, and the first number that passes a test.
--- Document 01, "When the tool says no": "Checked in this order, the first that applies", "first such node".
+-- The first of a list of cases that applies, with its answer, and the first number that passes a test. Rule 11.0, for any answers: a case
+-- is one row of a table, a test and what is answered where it is passed.
+-- A choice: where no number below n passes, the first is n.
 use mathlib.Core.Path.{_≡_}
 use mathlib.Core.Bool.{Bool, true, false, cond, _&&_}
 use mathlib.Core.Logic.{_⊎_}
@@ -7,32 +8,32 @@ use mathlib.Core.List.{List, [], _∷_}
 use Prim.Native.Nat.{ℕ, zero, suc}
 
 infix 30 _⇒_
--- A rule: whether it applies, and what is answered then.
-pub data Rule (X : Type 0) : Type 0 where
-  _⇒_ : Bool → X → Rule X
+-- Whether it applies, and what is answered then.
+pub data Case (X : Type 0) : Type 0 where
+  _⇒_ : Bool → X → Case X
 
--- The answer of the first rule that applies, or `otherwise`. `say` turns a rule's answer into the whole's.
-abbrev pub firstRule : {X Y : Type 0} → (X → Y) → List (Rule X) → Y → Y
-firstRule say [] otherwise = otherwise
-firstRule say ((test ⇒ answer) ∷ rules) otherwise = cond test (say answer) (firstRule say rules otherwise)
+-- Rule 11.0: the answer of the first case that applies, or `otherwise`. `say` turns a case's answer into the whole's.
+abbrev pub firstCase : {X Y : Type 0} → (X → Y) → List (Case X) → Y → Y
+firstCase say [] otherwise = otherwise
+firstCase say ((test ⇒ answer) ∷ cases) otherwise = cond test (say answer) (firstCase say cases otherwise)
 
--- No rule of the list applies.
-abbrev pub NoneApplies : {X : Type 0} → List (Rule X) → Type 0
+-- No case applies.
+abbrev pub NoneApplies : {X : Type 0} → List (Case X) → Type 0
 NoneApplies [] = Unit {0}
-NoneApplies ((test ⇒ answer) ∷ rules) = (test ≡ false) × NoneApplies rules
+NoneApplies ((test ⇒ answer) ∷ cases) = (test ≡ false) × NoneApplies cases
 
--- A rule that answers x applies, and none before it.
-abbrev pub FirstApplies : {X : Type 0} → List (Rule X) → X → Type 0
+-- Rule 11.0, as a statement: a case that answers x applies, and none before it.
+abbrev pub FirstApplies : {X : Type 0} → List (Case X) → X → Type 0
 FirstApplies [] x = ⊥
-FirstApplies ((test ⇒ answer) ∷ rules) x =
-    ((test ≡ true) × (answer ≡ x)) ⊎ ((test ≡ false) × FirstApplies rules x)
+FirstApplies ((test ⇒ answer) ∷ cases) x =
+    ((test ≡ true) × (answer ≡ x)) ⊎ ((test ≡ false) × FirstApplies cases x)
 
 -- The first of the `left` numbers from k on that passes the test; where none does, the number after them.
 abbrev pub firstFrom : ℕ → ℕ → (ℕ → Bool) → ℕ
 firstFrom k zero test = k
 firstFrom k (suc left) test = cond (test k) k (firstFrom (suc k) left test)
 
--- The first number below n that passes the test, or n.
+-- Rule 11.0, of places: the first number below n that passes the test, or n.
 abbrev pub first : ℕ → (ℕ → Bool) → ℕ
 first n test = firstFrom zero n test
 

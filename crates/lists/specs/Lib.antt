@@ -4,3 +4,4 @@ pub mod Loops
 pub mod Slices
 pub mod Telling
 pub mod Soundings
+pub mod Answers

@@ -1,4 +1,6 @@
 -- Lists by their elements, whether two are the same, a list laid over the start of another, and a sum.
+-- Rules 12.1 and 12.2, of one list alone (`padded`, `written`); all else here is no rule of the tool, and definitions are put together of it.
+-- Choices: both are for lists that fit. What is longer than its buffer or its places is not cut.
 use mathlib.Core.Bool.{Bool, true, false, _&&_}
 use mathlib.Core.List.{List, [], _∷_, _++_}
 use mathlib.Core.Logic.{_⊎_}
@@ -38,10 +40,10 @@ abbrev pub joined : {X : Type 0} → List (List X) → List X
 joined [] = []
 joined (l ∷ ls) = l ++ joined ls
 
--- `new` written over the start of a lent buffer. Document 01, "When the tool says no": "longer buffers keep their tails".
+-- Rule 12.2, of one buffer: `new` written over its start, and all beyond that as it was.
 abbrev pub written : {X : Type 0} → List X → List X → List X
 written new lent = new ++ drop (length new) lent
 
--- A list at the start of `size` places, zeros after it.
+-- Rule 12.1, of the list of blocks: a list at the start of `size` places, zeros behind it.
 abbrev pub padded : ℕ → List ℕ → List ℕ
 padded size l = l ++ replicate (size - length l) 0

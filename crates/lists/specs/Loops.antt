@@ -1,5 +1,6 @@
--- What a loop over places has stored, and what it has found, so far. Nothing here is document 01's: contracts of inner functions and
--- invariants speak of it, and laws lead from it to the lists that document 01's definitions name.
+-- What a loop over places has stored, and what it has found, so far.
+-- Nothing here is a rule of the tool: contracts of inner functions and invariants speak of it, and laws lead from it to the lists that the
+-- definitions name.
 use mathlib.Core.Bool.{Bool, _||_}
 use mathlib.Core.List.{List}
 use Prim.Native.Nat.{ℕ, zero, suc, _+_}

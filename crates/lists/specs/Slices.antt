@@ -1,5 +1,5 @@
--- A lent slice as the clauses of a contract name it. Nothing here is document 01's: with it a contract can say in a few words what several
--- slices hold.
+-- A lent slice as the clauses of a contract name it.
+-- Nothing here is a rule of the tool: with it a contract can say in a few words what several slices hold.
 use mathlib.Core.List.{List}
 use Prim.Native.Nat.{ℕ}
 use denote.Ref.{RefT}

@@ -1,4 +1,5 @@
 -- Soundings: what a definition gives on an example that is written out, and what is wanted of it. They are held together by computing alone.
+-- Nothing here is a rule of the tool: examples of its rules are written with it.
 use Prim.Native.Nat.{ℕ}
 use mathlib.Core.List.{List, map}
 use mathlib.Core.Path.{_≡_}

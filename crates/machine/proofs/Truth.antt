@@ -13,8 +13,9 @@ use Rattle.chart.specs.Chart.{Chart, accepted, readChart, touches}
 use Rattle.chart.proofs.Accepted.{accepted-apart}
 use Rattle.cache.specs.Ages.{Ages, startAges}
 use Rattle.cache.specs.Plain.{Cache, Formed}
-use Rattle.cache.proofs.Bounding.{Named, bounds-weaker, start-bounds, touch-bounds, young-hits, old-misses}
-use Rattle.flow.proofs.Walking.{Truthful}
+use Rattle.cache.specs.Laws.{Named}
+use Rattle.cache.proofs.Bounding.{bounds-weaker, start-bounds, touch-bounds, young-hits, old-misses}
+use Rattle.flow.specs.Truths.{Truthful}
 use Rattle.ages.specs.Plan.{columnsOf, planFlow}
 use Rattle.ages.specs.Charted.{columnOf, blockAt, columnTouch, isEmpty, planOf, touchedBy}
 use Rattle.ages.proofs.Charting.{step-touches, must-limit-planned, may-limit-planned, keys-set, sets-key, column-inside, column-holds, chart-sound}
@@ -62,13 +63,13 @@ module _ (bytes : List ℕ) (chart : Chart) (read : readChart bytes ≡ accepted
 
   -- ---- what the lift along a walk asks, and the start
 
-  pub truthful : Truthful (planFlow (planOf chart)) (plainMachine chart) (touches chart) (touchedBy chart) (AgesTrue chart)
-  truthful =
+  pub plan-truthful : Truthful (planFlow (planOf chart)) (plainMachine chart) (touches chart) (touchedBy chart) (AgesTrue chart)
+  plan-truthful =
       record {
         arrows-in = chart-sound bytes chart read .arrows-in;
         step-is = step-touches chart;
         one-touch = touch-true;
-        weaker = bounds-weaker (columnsOf (planOf chart)) (waysOf chart) (keyOf chart) (blockAt chart);
+        below-true = bounds-weaker (columnsOf (planOf chart)) (waysOf chart) (keyOf chart) (blockAt chart);
       }
 
   pub start-true : (contents : Contents chart) → plainMachine chart .Begins contents → AgesTrue chart (planFlow (planOf chart) .start) contents

@@ -1,5 +1,6 @@
--- The plain machine of a chart: what it holds, what a walk may begin with, what it finds and what it pays. Document 01, "The plain cache"
--- and "Totals".
+-- The plain machine of a chart: what it holds, what a walk may begin with, what it finds and what it pays. Rules 2.8, 3.2, 4.1, 4.6, 4.7, 5.3
+-- and 6.1.
+-- A choice: its key of a block is the block's set, and not the plan's key, so that analysis and machine do not share that definition.
 use mathlib.Core.Path.{_≡_}
 use mathlib.Core.List.{List, []}
 use Prim.Native.Nat.{ℕ}
@@ -15,21 +16,20 @@ use Rattle.flow.specs.Walk.{Machine, paid}
 use Rattle.ages.specs.Plan.{columnsOf}
 use Rattle.ages.specs.Charted.{blockAt, planOf}
 
--- Every set has A ways; a block's set key is its set.
+-- Rule 4.1: every set has A ways.
 abbrev pub waysOf : Chart → ℕ → ℕ
 waysOf chart set = chart .header .geometry .ways
 
+-- Rule 3.2: a block's set key is its set.
 abbrev pub keyOf : Chart → ℕ → ℕ
 keyOf chart = setOf (chart .header .geometry)
 
--- What a walk may begin with: "Start "empty" means all lists are empty. Start "unknown" means any lists of this form, also of blocks not
--- in the chart."
+-- Rules 4.6 and 4.7: what a walk may begin with. No block of an unknown start has to be the chart's.
 abbrev pub BeginsWith : Chart → Start → Cache → Type 0
 BeginsWith chart Unknown cache = Formed (waysOf chart) (keyOf chart) cache
 BeginsWith chart Empty cache = (set : ℕ) → cache set ≡ []
 
--- A touch of a block is document 01's reference of it, and what it finds is hit or miss as the paper says; "a write is treated as a read",
--- so that the flag `write` counts for neither.
+-- Rule 5.3: a plain cache, carried along touches. By rule 2.8 the flag `write` counts neither for what a touch does nor for what it finds.
 abbrev pub plainMachine : Chart → Machine Touch
 plainMachine chart =
     record {
@@ -42,11 +42,11 @@ plainMachine chart =
 abbrev pub Contents : Chart → Type 0
 Contents chart = plainMachine chart .Contents
 
--- What ages say of the machine's contents: its blocks are no older than the must and no younger than the may ages.
+-- Rule 6.1: what ages say of the machine's contents.
 abbrev pub AgesTrue : (chart : Chart) → Ages → Contents chart → Type 0
 AgesTrue chart a contents = Bounds (columnsOf (planOf chart)) (waysOf chart) (keyOf chart) (blockAt chart) a contents
 
--- What it pays in all on the walk of the entry and then ts: "the hit or miss cost at each reference and nothing at a bare step".
+-- Rule 5.3: what it pays in all on the walk of the entry and then ts.
 abbrev pub costOf : (chart : Chart) → ℕ → ℕ → List ℕ → Contents chart → ℕ
 costOf chart hitCost missCost ts contents =
     paid (plainMachine chart) hitCost missCost (touches chart) (chart .header .entry) ts contents

@@ -15,9 +15,9 @@ use Rattle.chart.specs.Record.{arrowsOf, Leads}
 use Rattle.chart.specs.declared.records.Targets.{Targets}
 use Rattle.ages.specs.declared.ColumnTouch.{ColumnTouch}
 use Rattle.ages.specs.Plan.{PlanNode, Plan, nothing, columnsOf, touchesIn, arrowsIn}
-use Rattle.plan.specs.declared.Work.{Work}
-use Rattle.plan.specs.declared.Work.the-variants.{Step, Reference}
-use Rattle.plan.specs.Listed.{nodesIn, blocksIn, nodePlace, nodeIn, touchesBy, planNode, planIn, Drawn, WorkIn}
+use Rattle.plan.specs.declared.PlannedRecord.{PlannedRecord}
+use Rattle.plan.specs.declared.PlannedRecord.the-variants.{Step, Reference}
+use Rattle.plan.specs.Listed.{nodesIn, blocksIn, nodePlace, nodeIn, touchesBy, planNode, planIn, Drawn, RecordIn}
 
 -- ---- arrows that lead to nodes, from what is known of each
 
@@ -45,7 +45,7 @@ module _ (columns plan : List ℕ) where
   step-held : (n : ℕ) → n < nodesIn plan → getD (planIn columns plan .steps) n nothing ≡ planNode (nodeIn plan n)
   step-held n h = getD-listOf (nodesIn plan) (λ k. planNode (nodeIn plan k)) nothing n h
 
-  pub touches-held : (n : ℕ) → n < nodesIn plan → touchesIn (planIn columns plan) n ≡ touchesBy (nodeIn plan n .work)
+  pub touches-held : (n : ℕ) → n < nodesIn plan → touchesIn (planIn columns plan) n ≡ touchesBy (nodeIn plan n .what)
   touches-held n h = ap (λ (node : PlanNode). node .touches) (step-held n h)
 
   pub arrows-held : (n : ℕ) → n < nodesIn plan → arrowsIn (planIn columns plan) n ≡ arrowsOf (nodeIn plan n .targets)
@@ -69,18 +69,18 @@ module _ (columns plan : List ℕ) where
         arrows-lead (nodesIn plan) (nodeIn plan n .targets)
         (λ t i. drawn .sound .arrows-in n t inside (subst (Among t) (sym (arrows-held n inside)) i))
 
-    pub work-in : WorkIn (blocksIn plan) (nodeIn plan n .work)
-    work-in =
-        go (nodeIn plan n .work) (λ touch i. drawn .sound .columns-in n inside touch (subst (Among touch) (sym (touches-held n inside)) i))
+    pub record-in : RecordIn (blocksIn plan) (nodeIn plan n .what)
+    record-in =
+        go (nodeIn plan n .what) (λ touch i. drawn .sound .columns-in n inside touch (subst (Among touch) (sym (touches-held n inside)) i))
       where
-        go : (work : Work) → ((touch : ColumnTouch) → Among touch (touchesBy work) → touch .column < blocksIn plan) → WorkIn (blocksIn plan) work
+        go : (planned : PlannedRecord) → ((touch : ColumnTouch) → Among touch (touchesBy planned) → touch .column < blocksIn plan) → RecordIn (blocksIn plan) planned
         go Step each = tt
         go (Reference touch) each = each touch (inl refl)
 
 -- A reference that is of one of so many columns is of one of more.
-pub work-fits : (count more : ℕ) → count ≤ more → (work : Work) → WorkIn count work → WorkIn more work
-work-fits count more few Step inside = tt
-work-fits count more few (Reference touch) inside = omega arith
+pub record-fits : (count more : ℕ) → count ≤ more → (planned : PlannedRecord) → RecordIn count planned → RecordIn more planned
+record-fits count more few Step inside = tt
+record-fits count more few (Reference touch) inside = omega arith
 
 -- The head of a plan is there.
 pub head-listed : (columns plan : List ℕ) → Drawn columns plan → 4 ≤ length plan

@@ -1,7 +1,7 @@
--- A plan as two flat lists of numbers. Nothing here is document 01's: it says which plan two lists hold.
--- `columns` has three runs, each with room for the most blocks: set keys, must limits, may limits. `plan` begins with N, B, the entry and
--- 1 for an empty start; three numbers follow for each node. The first has its kind, as document 01 numbers it, in two bits, how many arrows
--- it has in the next two, and above them the column of its block; the others say where the two arrows lead.
+-- Which plan two flat lists of numbers hold. Rules 2.2 and 2.7, of a plan's numbers; how they are laid out is no rule's. `columns` has three runs,
+-- each with room for the most blocks: set keys, must limits, may limits. `plan` begins with N, B, the entry and 1 for an empty start; three numbers
+-- follow for each node: kind in two bits, how many arrows in the next two and above them the column; then where the two arrows lead. A number that
+-- is not there counts as 0, a start other than 0 as empty, and kind 3, which no chart has, as a read.
 use Prim.Native.Nat.{ℕ, _+_, _*_, _/_, _%_, _≤_, _<_}
 use mathlib.Core.Bool.{Bool, not, cond}
 use mathlib.Core.List.{List, [], _∷_}
@@ -11,14 +11,14 @@ use Rattle.lists.specs.Lists.{listOf}
 use Rattle.lists.specs.Slices.{Passed, Slice}
 use Rattle.chart.specs.Geometry.{mostNodes, mostBlocks}
 use Rattle.chart.specs.Record.{arrowsOf}
-use Rattle.chart.specs.declared.records.Targets.{Targets}
 use Rattle.ages.specs.declared.ColumnTouch.{ColumnTouch}
 use Rattle.ages.specs.Plan.{PlanNode, Plan, Sound}
-use Rattle.plan.specs.declared.Work.{Work}
-use Rattle.plan.specs.declared.Work.the-variants.{Step, Reference}
+use Rattle.plan.specs.declared.PlannedRecord.{PlannedRecord}
+use Rattle.plan.specs.declared.PlannedRecord.the-variants.{Step, Reference}
 use Rattle.plan.specs.declared.PlannedNode.{PlannedNode}
 use denote.Ref.{now}
 
+-- The head: N, B, the entry, and whether the start is empty.
 abbrev pub nodesIn : List ℕ → ℕ
 nodesIn plan = getD plan 0 0
 
@@ -35,33 +35,35 @@ emptyIn plan = not (eqb (getD plan 3 0) 0)
 abbrev pub nodePlace : ℕ → ℕ
 nodePlace n = 4 + 3 * n
 
--- "0 bare step, 1 read, 2 write"
-abbrev pub workOf : ℕ → ℕ → Work
-workOf kind column = cond (eqb kind 0) Step (Reference (record { column = column; write = eqb kind 2 }))
+-- Rule 2.2: what a kind of this number does to this column.
+abbrev pub plannedOf : ℕ → ℕ → PlannedRecord
+plannedOf kind column = cond (eqb kind 0) Step (Reference (record { column = column; write = eqb kind 2 }))
 
 -- A node as the functions hand it on, by its three numbers.
 abbrev pub nodeFrom : ℕ → ℕ → ℕ → PlannedNode
 nodeFrom deed first second =
     record {
-      work = workOf (deed % 4) (deed / 16);
+      what = plannedOf (deed % 4) (deed / 16);
       targets = record { outs = deed / 4 % 4; first = first; second = second };
     }
 
+-- Node n, by the numbers that stand there.
 abbrev pub nodeIn : List ℕ → ℕ → PlannedNode
 nodeIn plan n = nodeFrom (getD plan (nodePlace n) 0) (getD plan (nodePlace n + 1) 0) (getD plan (nodePlace n + 2) 0)
 
--- "whatever works on references passes a bare step over"
-abbrev pub touchesBy : Work → List ColumnTouch
+-- Rule 2.7: a bare step has no touch, so that nothing is done for it.
+abbrev pub touchesBy : PlannedRecord → List ColumnTouch
 touchesBy Step = []
 touchesBy (Reference touch) = touch ∷ []
 
 -- A reference is of one of the columns.
-abbrev pub WorkIn : ℕ → Work → Type 0
-WorkIn count Step = Unit {0}
-WorkIn count (Reference touch) = touch .column < count
+abbrev pub RecordIn : ℕ → PlannedRecord → Type 0
+RecordIn count Step = Unit {0}
+RecordIn count (Reference touch) = touch .column < count
 
+-- What a node does, as a plan has it.
 abbrev pub planNode : PlannedNode → PlanNode
-planNode node = record { touches = touchesBy (node .work); arrows = arrowsOf (node .targets) }
+planNode node = record { touches = touchesBy (node .what); arrows = arrowsOf (node .targets) }
 
 -- The plan that two lists hold.
 abbrev pub planIn : List ℕ → List ℕ → Plan

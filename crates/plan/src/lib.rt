@@ -1,8 +1,9 @@
-// A plan as two flat lists, which the functions on tables are handed: `columns` has what they need of each block, `plan` the rest.
+// A plan in two flat lists, which the functions on tables are handed: `columns` has what they need of each block, `plan` the rest. The functions
+// answer what `plan` says of the whole and of a node, whatever numbers stand there. None refuses: callers keep that the list reaches as far.
 ghost use mathlib.Core.Path.{_≡_};
 ghost use Prim.Native.Nat.{_+_, _≤_, _<_};
 ghost use lib.ListN.{length};
-ghost use Rattle.plan.specs.Listed.{nodesIn, blocksIn, entryIn, emptyIn, workOf, nodePlace, nodeIn};
+ghost use Rattle.plan.specs.Listed.{nodesIn, blocksIn, entryIn, emptyIn, plannedOf, nodePlace, nodeIn};
 use ages::ColumnTouch;
 use chart::Geometry;
 use chart::Targets;
@@ -24,24 +25,25 @@ pub const HEAD: usize = 4;
 pub const NODE: usize = 3;
 
 // What a record does: a bare step, or a reference to the block in a column.
-pub enum Work {
+pub enum PlannedRecord {
     Step,
     Reference(ColumnTouch),
 }
 
 // What a node does, and where its arrows lead.
 pub struct PlannedNode {
-    pub work: Work,
+    pub what: PlannedRecord,
     pub targets: Targets,
 }
 
+// The same number, of another type.
 fn wide(number: u16) -> usize
     ensures { λ r. ⌜ r ≡ number ⌝ }
 {
     number as usize
 }
 
-// The number of nodes.
+// How many nodes there are: the first number.
 pub fn nodes_in(plan: &[u16]) -> usize
     requires { ⌜ 0 < length (now plan) ⌝ }
     ensures { λ r. ⌜ r ≡ nodesIn (now (plan .entry)) ⌝ }
@@ -49,7 +51,7 @@ pub fn nodes_in(plan: &[u16]) -> usize
     wide(plan[0])
 }
 
-// The number of blocks.
+// How many blocks there are: the second number.
 pub fn blocks_in(plan: &[u16]) -> usize
     requires { ⌜ 1 < length (now plan) ⌝ }
     ensures { λ r. ⌜ r ≡ blocksIn (now (plan .entry)) ⌝ }
@@ -57,7 +59,7 @@ pub fn blocks_in(plan: &[u16]) -> usize
     wide(plan[1])
 }
 
-// The entry.
+// The entry: the third number.
 pub fn entry_in(plan: &[u16]) -> usize
     requires { ⌜ 2 < length (now plan) ⌝ }
     ensures { λ r. ⌜ r ≡ entryIn (now (plan .entry)) ⌝ }
@@ -65,7 +67,7 @@ pub fn entry_in(plan: &[u16]) -> usize
     wide(plan[2])
 }
 
-// Whether the start is empty.
+// Whether the start is empty: the fourth number is not 0.
 pub fn empty_in(plan: &[u16]) -> bool
     requires { ⌜ 3 < length (now plan) ⌝ }
     ensures { λ r. ⌜ r ≡ emptyIn (now (plan .entry)) ⌝ }
@@ -73,34 +75,34 @@ pub fn empty_in(plan: &[u16]) -> bool
     plan[3] != 0
 }
 
-// What a node of this kind does to this column: kind 0 is a bare step, 1 a read, 2 a write.
-fn work_of(kind: usize, column: usize) -> Work
-    ensures { λ r. ⌜ r ≡ workOf kind column ⌝ }
+// What a node of this kind does to this column (rule 2.2); a kind that there is not reads.
+fn planned_of(kind: usize, column: usize) -> PlannedRecord
+    ensures { λ r. ⌜ r ≡ plannedOf kind column ⌝ }
 {
     if kind == 0 {
-        return Work::Step;
+        return PlannedRecord::Step;
     }
-    Work::Reference(ColumnTouch {
+    PlannedRecord::Reference(ColumnTouch {
         column: column,
         write: kind == 2,
     })
 }
 
-// What node n does.
+// What node n does and where its arrows lead, out of its three numbers.
 pub fn node_in(plan: &[u16], n: usize) -> PlannedNode
     requires { ⌜ nodePlace n + 3 ≤ length (now plan) ⌝ }
     ensures { λ r. ⌜ r ≡ nodeIn (now (plan .entry)) n ⌝ }
 {
     let place = HEAD + NODE * n;
     let deed = wide(plan[place]);
-    let work = work_of(deed % 4, deed / 16);
+    let planned = planned_of(deed % 4, deed / 16);
     let targets = Targets {
         outs: deed / 4 % 4,
         first: wide(plan[place + 1]),
         second: wide(plan[place + 2]),
     };
     PlannedNode {
-        work: work,
+        what: planned,
         targets: targets,
     }
 }

@@ -3,25 +3,25 @@ use mathlib.Core.Path.{_≡_, refl}
 use Prim.Native.Nat.{suc}
 use denote.Enum.Declared.{tagOf}
 use Rattle.refusals.specs.declared.Refusal.{Refusal}
-use Rattle.refusals.specs.declared.Refusal.the-variants.{TooShort, Edition, Shape, StartCode, NodeCount, EntryNode, SpareBits, Length, BrokenRecord, TooManyBlocks, ShortBuffer, Unsettled, NotPassing, BoundsLength, Costs, FloorAboveCeiling, FloorAtUnmarked}
+use Rattle.refusals.specs.declared.Refusal.the-variants.{TooShort, Edition, CacheShape, StartCode, NodeCount, EntryNode, SpareBits, Length, BrokenRecord, TooManyBlocks, ShortBuffer, Unsettled, NotPassing, BoundsLength, MissBelowHit, FloorAboveCeiling, FloorAtUnmarked}
 use Rattle.refusals.specs.Refusals.{numberOf}
 use Rattle.refusals.proofs.Refusal as declared
 
-pub numbered : (refusal : Refusal) → numberOf refusal ≡ suc (tagOf declared.the-type refusal)
-numbered TooShort = refl
-numbered Edition = refl
-numbered Shape = refl
-numbered StartCode = refl
-numbered NodeCount = refl
-numbered EntryNode = refl
-numbered SpareBits = refl
-numbered Length = refl
-numbered (BrokenRecord node) = refl
-numbered (TooManyBlocks node) = refl
-numbered ShortBuffer = refl
-numbered Unsettled = refl
-numbered NotPassing = refl
-numbered BoundsLength = refl
-numbered Costs = refl
-numbered (FloorAboveCeiling node) = refl
-numbered (FloorAtUnmarked node) = refl
+pub number-tag : (refusal : Refusal) → numberOf refusal ≡ suc (tagOf declared.the-type refusal)
+number-tag TooShort = refl
+number-tag Edition = refl
+number-tag CacheShape = refl
+number-tag StartCode = refl
+number-tag NodeCount = refl
+number-tag EntryNode = refl
+number-tag SpareBits = refl
+number-tag Length = refl
+number-tag (BrokenRecord node) = refl
+number-tag (TooManyBlocks node) = refl
+number-tag ShortBuffer = refl
+number-tag Unsettled = refl
+number-tag NotPassing = refl
+number-tag BoundsLength = refl
+number-tag MissBelowHit = refl
+number-tag (FloorAboveCeiling node) = refl
+number-tag (FloorAtUnmarked node) = refl

@@ -1,12 +1,14 @@
--- The refusals' numbers and places. Document 01, "When the tool says no".
+-- The refusals' numbers and places. Rule 11.0, with the numbers of rules 11.1 to 11.17.
+-- When each applies is not said here, but beside the function that gives it.
 use Prim.Native.Nat.{ℕ}
 use Rattle.refusals.specs.declared.Refusal.{Refusal}
-use Rattle.refusals.specs.declared.Refusal.the-variants.{TooShort, Edition, Shape, StartCode, NodeCount, EntryNode, SpareBits, Length, BrokenRecord, TooManyBlocks, ShortBuffer, Unsettled, NotPassing, BoundsLength, Costs, FloorAboveCeiling, FloorAtUnmarked}
+use Rattle.refusals.specs.declared.Refusal.the-variants.{TooShort, Edition, CacheShape, StartCode, NodeCount, EntryNode, SpareBits, Length, BrokenRecord, TooManyBlocks, ShortBuffer, Unsettled, NotPassing, BoundsLength, MissBelowHit, FloorAboveCeiling, FloorAtUnmarked}
 
+-- Rule 11.0: each refusal's number, the place of its rule in section 11.
 abbrev pub numberOf : Refusal → ℕ
 numberOf TooShort = 1
 numberOf Edition = 2
-numberOf Shape = 3
+numberOf CacheShape = 3
 numberOf StartCode = 4
 numberOf NodeCount = 5
 numberOf EntryNode = 6
@@ -18,15 +20,15 @@ numberOf ShortBuffer = 11
 numberOf Unsettled = 12
 numberOf NotPassing = 13
 numberOf BoundsLength = 14
-numberOf Costs = 15
+numberOf MissBelowHit = 15
 numberOf (FloorAboveCeiling node) = 16
 numberOf (FloorAtUnmarked node) = 17
 
--- The node at fault, and 0 where the table's last column says 0.
+-- Rule 11.0: the node at fault, where a refusal has one, and else 0.
 abbrev pub placeOf : Refusal → ℕ
 placeOf TooShort = 0
 placeOf Edition = 0
-placeOf Shape = 0
+placeOf CacheShape = 0
 placeOf StartCode = 0
 placeOf NodeCount = 0
 placeOf EntryNode = 0
@@ -38,6 +40,6 @@ placeOf ShortBuffer = 0
 placeOf Unsettled = 0
 placeOf NotPassing = 0
 placeOf BoundsLength = 0
-placeOf Costs = 0
+placeOf MissBelowHit = 0
 placeOf (FloorAboveCeiling node) = node
 placeOf (FloorAtUnmarked node) = node

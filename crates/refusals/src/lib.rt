@@ -1,12 +1,12 @@
-// What the tool answers when it says no.
+// What the tool answers when it refuses: which refusal it is, and of each its number and its place. Both answer for every refusal.
 ghost use mathlib.Core.Path.{_≡_};
 ghost use Rattle.refusals.specs.Refusals.{numberOf, placeOf};
 
-// Document 01's refusals, in its order; those that name a node carry it.
+// The refusals in the order of rules 11.1 to 11.17; those that are a node's fault carry the node.
 pub enum Refusal {
     TooShort,
     Edition,
-    Shape,
+    CacheShape,
     StartCode,
     NodeCount,
     EntryNode,
@@ -18,20 +18,20 @@ pub enum Refusal {
     Unsettled,
     NotPassing,
     BoundsLength,
-    Costs,
+    MissBelowHit,
     FloorAboveCeiling(usize),
     FloorAtUnmarked(usize),
 }
 
 impl Refusal {
-    // Document 01's number.
+    // The refusal's number, from 1 to 17 (rule 11.0).
     pub fn number(self) -> u64
         ensures { λ r. ⌜ r ≡ numberOf self ⌝ }
     {
         match self {
             Refusal::TooShort => 1,
             Refusal::Edition => 2,
-            Refusal::Shape => 3,
+            Refusal::CacheShape => 3,
             Refusal::StartCode => 4,
             Refusal::NodeCount => 5,
             Refusal::EntryNode => 6,
@@ -43,20 +43,20 @@ impl Refusal {
             Refusal::Unsettled => 12,
             Refusal::NotPassing => 13,
             Refusal::BoundsLength => 14,
-            Refusal::Costs => 15,
+            Refusal::MissBelowHit => 15,
             Refusal::FloorAboveCeiling(_) => 16,
             Refusal::FloorAtUnmarked(_) => 17,
         }
     }
 
-    // The node that is at fault, or 0.
+    // The node that is at fault, or 0 where no single one is (rule 11.0).
     pub fn place(self) -> usize
         ensures { λ r. ⌜ r ≡ placeOf self ⌝ }
     {
         match self {
             Refusal::TooShort => 0,
             Refusal::Edition => 0,
-            Refusal::Shape => 0,
+            Refusal::CacheShape => 0,
             Refusal::StartCode => 0,
             Refusal::NodeCount => 0,
             Refusal::EntryNode => 0,
@@ -68,7 +68,7 @@ impl Refusal {
             Refusal::Unsettled => 0,
             Refusal::NotPassing => 0,
             Refusal::BoundsLength => 0,
-            Refusal::Costs => 0,
+            Refusal::MissBelowHit => 0,
             Refusal::FloorAboveCeiling(node) => node,
             Refusal::FloorAtUnmarked(node) => node,
         }

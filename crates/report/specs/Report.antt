@@ -1,9 +1,10 @@
--- What the program prints for any input. Document 01, "A chart and its report, whole".
+-- What the program prints for any input. Rules 13.1, 13.2 and 14.1 to 14.3. A class above 4, which the analysis never writes, reads as none. The
+-- analysis gets buffers of the program's own, zeros with room for the largest chart; so a report never says 11. How the input is read is not said here.
 use Prim.Native.Nat.{ℕ, _+_, _*_}
 use mathlib.Core.List.{List, [], _∷_, _++_}
 use lib.ListN.{getD, replicate, take}
 use lib.Dec.{eqb}
-use Rattle.lists.specs.Choice.{_⇒_, firstRule}
+use Rattle.lists.specs.Choice.{_⇒_, firstCase}
 use Rattle.lists.specs.Lists.{listOf, joined}
 use Rattle.chart.specs.Geometry.{mostNodes, mostBlocks, longestChart, allPasses}
 use Rattle.chart.specs.Header.{headerIn}
@@ -16,13 +17,14 @@ use Rattle.analysis.specs.Analysis.{Buffers, Left, analysed}
 use Rattle.classes.specs.Class.{unreached, hit, miss, unsure}
 use Rattle.report.specs.Text.{lineFeed, space, nodesWord, blocksWord, passesWord, unreachedWord, hitWord, missWord, unsureWord, noneWord, refusedWord, atWord, decimal}
 
--- "a chart of up to 2,056 bytes .. a longer input gets the answer for its first 2,057 bytes"
+-- Rule 13.1: as many bytes as the longest chart has, and one more.
 abbrev pub taken : List ℕ → List ℕ
 taken input = take (longestChart + 1) input
 
+-- Rule 14.2: the word of a class.
 abbrev pub classWord : ℕ → List ℕ
 classWord class =
-    firstRule (λ word. word)
+    firstCase (λ word. word)
     ((eqb class unreached ⇒ unreachedWord)
     ∷ (eqb class hit ⇒ hitWord)
     ∷ (eqb class miss ⇒ missWord)
@@ -30,16 +32,16 @@ classWord class =
     ∷ [])
     noneWord
 
--- "0 none"
+-- Rule 14.2: the line of node n.
 abbrev pub nodeLine : List ℕ → ℕ → List ℕ
 nodeLine classes n = decimal n ++ space ++ classWord (getD classes n 0) ++ lineFeed
 
--- "A refusal is one line, as `refused 9 at 2`."
+-- Rule 14.3, as in `refused 9 at 2`.
 abbrev pub refusalLine : Refusal → List ℕ
 refusalLine refusal =
     refusedWord ++ space ++ decimal (numberOf refusal) ++ space ++ atWord ++ space ++ decimal (placeOf refusal) ++ lineFeed
 
--- "nodes 3 blocks 1 passes 2", then a line for each node; or a refusal's line.
+-- Rules 14.1 to 14.3: the first line and the nodes' lines, or the line of a refusal.
 abbrev pub reportOf : ℕ → List ℕ → Analysed → List ℕ
 reportOf nodes classes (Settled passes blocks) =
     nodesWord ++ space ++ decimal nodes ++ space ++ blocksWord ++ space ++ decimal blocks ++ space
@@ -48,7 +50,7 @@ reportOf nodes classes (Settled passes blocks) =
 reportOf nodes classes (Unsettled allowance blocks) = refusalLine refusals.Unsettled
 reportOf nodes classes (Refused refusal) = refusalLine refusal
 
--- Buffers of zeros for a chart of so many nodes and blocks.
+-- The program's own buffers, of zeros, for a chart of so many nodes and blocks.
 abbrev pub zeroBuffers : ℕ → ℕ → Buffers
 zeroBuffers nodes blocks =
     record {
@@ -59,10 +61,11 @@ zeroBuffers nodes blocks =
       classes = replicate nodes 0;
     }
 
+-- Rules 14.1 to 14.3: the report of what the analysis of these bytes left. N is the header's.
 abbrev pub reportLeft : List ℕ → Left → List ℕ
 reportLeft bytes left = reportOf (headerIn bytes .nodes) (left .buffers .classes) (left .answer)
 
--- "It allows 262,401 passes." Its own buffers have room for the largest chart.
+-- Rule 13.2: the allowance is enough for the largest chart.
 unfoldable pub report : List ℕ → List ℕ
 report input =
     reportLeft (taken input) (analysed (taken input) allPasses (zeroBuffers mostNodes mostBlocks))

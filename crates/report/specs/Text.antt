@@ -1,12 +1,15 @@
--- Words and numbers of the report, in ASCII. Document 01, "A chart and its report, whole".
+-- Words and numbers of a report, as the bytes of ASCII. Rule 14.4, and the words of rules 14.1 to 14.3. A number has at most 20 digits, as many as
+-- one of 64 bits needs; of a larger one they are the last 20.
 use Prim.Native.Nat.{ℕ, zero, suc, _+_, _/_, _%_}
 use mathlib.Core.Bool.{cond}
 use mathlib.Core.List.{List, [], _∷_, _++_}
 use lib.Dec.{ltb}
 
+-- Rule 14.4: the end of a line.
 abbrev pub lineFeed : List ℕ
 lineFeed = 10 ∷ []
 
+-- What rules 14.1 to 14.3 put between words and numbers.
 abbrev pub space : List ℕ
 space = 32 ∷ []
 
@@ -50,11 +53,11 @@ refusedWord = 114 ∷ 101 ∷ 102 ∷ 117 ∷ 115 ∷ 101 ∷ 100 ∷ []
 abbrev pub atWord : List ℕ
 atWord = 97 ∷ 116 ∷ []
 
--- A number of at most so many digits, without leading zeros.
+-- Rule 14.4: a number in at most so many digits, the first not 0 unless it is the only one.
 abbrev pub decimalBy : ℕ → ℕ → List ℕ
 decimalBy zero n = []
 decimalBy (suc digits) n = cond (ltb n 10) ((48 + n) ∷ []) (decimalBy digits (n / 10) ++ ((48 + n % 10) ∷ []))
 
--- A number below 2^64, which has at most 20 digits.
+-- Rule 14.4, of a number below 2^64, which has at most 20 digits.
 abbrev pub decimal : ℕ → List ℕ
 decimal n = decimalBy 20 n

@@ -1,5 +1,5 @@
--- A text in an array of fixed size, and what the crate's inner functions promise of a text that is being written.
--- Nothing here is document 01's.
+-- A text in an array of fixed size, and what the crate's inner functions promise of a text that is being written. Nothing here is a rule of the
+-- tool: it is how a report, which rules 14.1 to 14.4 say, comes to those who print it.
 use mathlib.Core.Bool.{Bool}
 use mathlib.Core.List.{List}
 use mathlib.Core.Path.{_≡_}

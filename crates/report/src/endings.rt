@@ -1,9 +1,9 @@
-// How the program ends, as the number that its exit status is to be.
+// How the program ends (rule 13.3): answers the number that its exit status is to be, for every answer of the analysis, written whole or not.
 ghost use mathlib.Core.Path.{_≡_};
 ghost use Rattle.report.specs.Ending.{refusedBy, endingOf};
 use analysis::Analysed;
 
-// Whether an answer's report is a refusal's line.
+// Whether an answer is a refusal, so that its report is one line.
 pub(crate) fn refused_by(answer: Analysed) -> bool
     ensures { λ r. ⌜ r ≡ refusedBy answer ⌝ }
 {
@@ -20,7 +20,7 @@ pub(crate) fn refused_by(answer: Analysed) -> bool
     }
 }
 
-// 0 after a report, 1 after a refusal, 2 where not all of it could be written.
+// Answers 0 after a report and 1 after a refusal, if the text was written whole; else 2.
 pub fn ending(refused: bool, whole: bool) -> u64
     ensures { λ r. ⌜ r ≡ endingOf refused whole ⌝ }
 {

@@ -1,4 +1,5 @@
-// The report of any input.
+// Answers the report of any input, as text. Of a longer input only the first `TAKEN` bytes count (rule 13.1). Nothing is refused but in a report that
+// says so.
 ghost use mathlib.Core.Path.{_≡_};
 ghost use Prim.Native.Nat.{_≤_};
 ghost use Rattle.chart.specs.Header.{headerRead};
@@ -49,7 +50,7 @@ fn report_bytes(chart: &[u8]) -> Text
     written(nodes, &classes, answer)
 }
 
-// The report of any input: of its first 2,057 bytes, within 262,401 passes.
+// Answers the text for any input, and whether that is a refusal: of its first 2,057 bytes, with 262,401 passes (rules 13.1 and 13.2).
 pub fn report(input: &[u8]) -> Text
     ensures { λ r. ⌜ r ≡ textOf (defined (now (input .entry))) (refuses (now (input .entry))) ⌝ }
     ensures { λ r. ⌜ r .size ≤ mostText ⌝ }

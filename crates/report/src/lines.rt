@@ -1,4 +1,5 @@
-// The lines of a report, put into a lent buffer from a place on; each function answers the place behind what it put.
+// Puts the lines of a report into a lent buffer from a place on; each function answers the place behind what it put. Callers keep that there is
+// room for the most that it can be. Nothing is refused here.
 ghost use Prim.Native.Nat.{_+_, _*_, _≤_, _<_};
 ghost use lib.ListN.{length};
 ghost use Rattle.lists.specs.Lists.{listOf, joined};
@@ -11,7 +12,7 @@ use crate::puts::put_named;
 use crate::puts::put_word;
 use refusals::Refusal;
 
-// Puts the word for a class, which is one of document 01's numbers.
+// Puts the word of a class (rule 14.2); any class above 3 reads as none.
 fn put_class(text: &mut [u8], at: usize, class: u8) -> usize
     requires { ⌜ at + mostLetters ≤ length (now text) ⌝ }
     ensures { λ r. ⌜ Put mostLetters (now (text .entry)) at (classWord class) (now (text .exit)) r ⌝ }
@@ -50,7 +51,7 @@ fn put_nodes(text: &mut [u8], at: usize, nodes: usize, classes: &[u8]) -> usize
     next
 }
 
-// Puts the whole report of a chart that settled: the first line, as `nodes 3 blocks 1 passes 2`, and a line for each node.
+// Puts the whole report of a chart that settled: the first line, as `nodes 3 blocks 1 passes 2` (rule 14.1), and the nodes' lines.
 pub(crate) fn put_settled(
     text: &mut [u8],
     nodes: usize,
@@ -69,7 +70,7 @@ pub(crate) fn put_settled(
     put_nodes(text, next, nodes, classes)
 }
 
-// Puts the whole report of a refusal, for any nodes and classes: one line, as `refused 9 at 2`.
+// Puts the whole report of a refusal (rule 14.3), as `refused 9 at 2`.
 pub(crate) fn put_refused(text: &mut [u8], refusal: Refusal) -> usize
     requires { ⌜ mostRefused ≤ length (now text) ⌝ }
     ensures { λ r. ⌜ Put mostRefused (now (text .entry)) 0 (refusalLine refusal) (now (text .exit)) r ⌝ }

@@ -1,4 +1,5 @@
-// Bytes, words and numbers put into a lent buffer from a place on; each function answers the place behind what it put.
+// Puts bytes, words and numbers into a lent buffer from a place on; each function answers the place behind what it put. Callers keep that there is
+// room for the most that it can be. Nothing is refused here.
 ghost use mathlib.Core.List.{[], _∷_, _++_};
 ghost use Prim.Native.Nat.{_+_, _≤_, _<_};
 ghost use lib.ListN.{length};
@@ -27,7 +28,7 @@ pub(crate) fn put_word(text: &mut [u8], at: usize, word: &[u8]) -> usize
     at + size
 }
 
-// Puts a number in at most so many digits, without leading zeros: those before the last, and then the last.
+// Puts a number in at most so many digits (rule 14.4): those before the last, and then the last.
 fn put_digits(text: &mut [u8], at: usize, digits: usize, n: u64) -> usize
     requires { ⌜ at + digits ≤ length (now text) ⌝ }
     ensures { λ r. ⌜ Put digits (now (text .entry)) at (decimalBy digits n) (now (text .exit)) r ⌝ }

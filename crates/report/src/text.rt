@@ -1,4 +1,5 @@
-// The report as a value: its bytes in an array, how many there are, and whether they are a refusal's line.
+// The report as a value: its bytes in an array, how many there are, and whether they are a refusal's line. Callers keep that there are no more
+// nodes than a chart may have, each with a class: then every report fits. Nothing is refused here.
 ghost use mathlib.Core.Path.{_≡_};
 ghost use Prim.Native.Nat.{_≤_};
 ghost use lib.ListN.{length};
@@ -34,7 +35,7 @@ impl Text {
     pub const MOST: usize = Text::FIRST + Text::NODE * Geometry::NODES;
 }
 
-// The report of an analysis that gave this answer and these classes for a chart of so many nodes.
+// Answers the report of an analysis that gave this answer and these classes for a chart of so many nodes; after a refusal only the answer counts.
 pub(crate) fn written(nodes: usize, classes: &[u8], answer: Analysed) -> Text
     requires { ⌜ nodes ≤ mostNodes ⌝ }
     requires { ⌜ nodes ≤ length (now classes) ⌝ }

@@ -1,13 +1,16 @@
--- A row as it is held by value: `mostBlocks` places, the first of them the ages of the chart's blocks. What a record does to them is
--- document 01's, by the definitions of `cache`; the rest is what inner functions promise one another.
+-- A row as it is held by value, and what a record makes of it. Rule 6.5; rules 6.3 and 6.4 come in by the definitions of `cache`. A row has
+-- `mostBlocks` places, the first of them for the chart's blocks: ages are worked out for all, and no answer depends on the rest.
+-- What else is here inner functions promise one another.
 use Prim.Native.Nat.{ℕ, _+_, _*_}
+use mathlib.Core.Bool.{cond}
 use mathlib.Core.List.{List}
 use lib.ListN.{getD}
+use lib.Dec.{eqb}
 use Rattle.chart.specs.Geometry.{mostBlocks}
 use Rattle.cache.specs.Ages.{Columns, Ages}
 use Rattle.flow.specs.Walk.{inTurn}
 use Rattle.ages.specs.Plan.{touchColumn}
-use Rattle.plan.specs.declared.Work.{Work}
+use Rattle.plan.specs.declared.PlannedRecord.{PlannedRecord}
 use Rattle.plan.specs.Listed.{touchesBy}
 use Rattle.rows.specs.declared.Row.{Row}
 
@@ -28,6 +31,12 @@ agesIn row = record { must = row .must; may = row .may }
 abbrev pub asRow : Ages → Row
 asRow a = record { must = a .must; may = a .may }
 
--- The ages after a record: "Bare step: nothing changes."
-abbrev pub afterWork : Columns → Work → Ages → Ages
-afterWork columns work a = inTurn (touchColumn columns) (touchesBy work) a
+-- Rule 6.5: a bare step has no touch and changes no age; a touch does what rules 6.3 and 6.4 say.
+abbrev pub afterRecord : Columns → PlannedRecord → Ages → Ages
+afterRecord columns planned a = inTurn (touchColumn columns) (touchesBy planned) a
+
+-- The age in column j of a row after its turn, in a loop for a touch of column m that grows the ages of the set with these keys.
+-- `grow j h a`: the age in column j, where that is of the set, and the touched block's is h.
+abbrev pub grown : List ℕ → ℕ → (ℕ → ℕ → ℕ → ℕ) → List ℕ → ℕ → ℕ
+grown keys m grow row j =
+    cond (eqb (getD keys j 0) (getD keys m 0)) (grow j (getD row m 0) (getD row j 0)) (getD row j 0)

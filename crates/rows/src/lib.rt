@@ -1,14 +1,15 @@
-// A row of ages by value: the start's, and what one record does to it.
+// A row of ages by value: answers the start's (rule 6.2), and what a record makes of a row (rules 6.3 to 6.5). All places are worked out, also those
+// without a block. None of the functions refuses: callers keep that the columns are there, and that what is touched is one of them.
 ghost use mathlib.Core.Path.{_≡_};
 ghost use Prim.Native.Nat.{suc, _*_, _≤_, _<_, min};
 ghost use mathlib.Core.Bool.{cond};
 ghost use lib.ListN.{length};
 ghost use Rattle.chart.specs.Geometry.{mostBlocks};
 ghost use Rattle.cache.specs.Ages.{mustGrown, mayGrown, touchAges, startAges};
-ghost use Rattle.rows.specs.Rows.{columnsBy, agesIn, asRow, afterWork};
-ghost use Rattle.plan.specs.Listed.{WorkIn};
+ghost use Rattle.rows.specs.Rows.{columnsBy, agesIn, asRow, afterRecord};
+ghost use Rattle.plan.specs.Listed.{RecordIn};
 use chart::Geometry;
-use plan::Work;
+use plan::PlannedRecord;
 
 // The must and may ages of a chart's blocks, in the list's order; no answer depends on the places past them.
 pub struct Row {
@@ -16,7 +17,7 @@ pub struct Row {
     pub may: [u8; Geometry::BLOCKS],
 }
 
-// The must age of another block after a touch of a block of age `h`; `same`: they are of one set.
+// The must age of another block after a touch of a block of age `h` (rule 6.3); `same`: they are of one set.
 fn must_age(same: bool, h: u8, age: u8) -> u8
     ensures { λ r. ⌜ r ≡ cond same (mustGrown h age) age ⌝ }
 {
@@ -28,6 +29,7 @@ fn must_age(same: bool, h: u8, age: u8) -> u8
     age
 }
 
+// The smaller of two ages.
 pub fn smaller_of(a: u8, b: u8) -> u8
     ensures { λ r. ⌜ r ≡ min a b ⌝ }
 {
@@ -41,7 +43,7 @@ fn one_more(age: u8) -> u8
     if age == 255 { 255 } else { age + 1 }
 }
 
-// The may age of another block after a touch of a block of age `h`; `same`: they are of one set.
+// The may age of another block after a touch of a block of age `h` (rule 6.4); `same`: they are of one set.
 fn may_age(limit: u8, same: bool, h: u8, age: u8) -> u8
     ensures { λ r. ⌜ r ≡ cond same (mayGrown limit h age) age ⌝ }
 {
@@ -74,20 +76,20 @@ impl Row {
         self
     }
 
-    // The row after a record. A bare step hands it back as it is.
-    pub fn after(self, columns: &[u8], work: Work) -> Row
+    // Answers the row after a record; after a bare step that is the row as it was (rule 6.5).
+    pub fn after(self, columns: &[u8], planned: PlannedRecord) -> Row
         requires { ⌜ 3 * mostBlocks ≤ length (now columns) ⌝ }
-        requires { ⌜ WorkIn mostBlocks work ⌝ }
-        ensures { λ r. ⌜ r ≡ asRow (afterWork (columnsBy (now (columns .entry)) mostBlocks) work (agesIn self)) ⌝ }
+        requires { ⌜ RecordIn mostBlocks planned ⌝ }
+        ensures { λ r. ⌜ r ≡ asRow (afterRecord (columnsBy (now (columns .entry)) mostBlocks) planned (agesIn self)) ⌝ }
     {
-        let Work::Reference(touch) = work else {
+        let PlannedRecord::Reference(touch) = planned else {
             return self;
         };
         let column = touch.column;
         self.touch(columns, column)
     }
 
-    // The ages that a walk begins with: each must age at its limit; each may age at its limit where the start is empty, else 0.
+    // Answers the start's ages (rule 6.2): each must age is its limit; each may age is its limit where the start is empty, else 0.
     pub fn start(columns: &[u8], empty: bool) -> Row
         requires { ⌜ 3 * mostBlocks ≤ length (now columns) ⌝ }
         ensures { λ r. ⌜ r ≡ asRow (startAges (columnsBy (now (columns .entry)) mostBlocks) empty) ⌝ }

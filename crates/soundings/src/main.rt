@@ -1,5 +1,5 @@
-// A program that runs document 01's sounding of the totals: the loop chart is analysed, its table checked, and its totals taken. It reads a
-// record that writes, and stands on the proofs of the three demands and of the soundings.
+// A program that runs the sounding of the totals: the loop chart is analysed, its table checked, and its totals taken. It reads a record that writes,
+// and stands on the proofs of the three demands and of the soundings. It takes no input, and prints the same each time.
 mod demanded;
 mod sounding;
 
@@ -35,10 +35,10 @@ fn print_refusal(refusal: Refusal) {
 // Writes what the checker answered.
 fn print_checked(answer: Checked) {
     match answer {
-        Checked::Passes => {
+        Checked::Yes => {
             io::write_all(STDOUT_FILENO, b"the checker passes the table\n");
         }
-        Checked::Fails => {
+        Checked::No => {
             io::write_all(STDOUT_FILENO, b"the checker fails the table\n");
         }
         Checked::Refused(refusal) => print_refusal(refusal),

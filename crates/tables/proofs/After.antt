@@ -15,15 +15,14 @@ use Rattle.cache.proofs.Touching.{touch-must, touch-may}
 use Rattle.flow.specs.Walk.{inTurn}
 use Rattle.layout.specs.Rows.{rowAt}
 use Rattle.ages.specs.declared.ColumnTouch.{ColumnTouch}
-use Rattle.ages.specs.Plan.{Plan, columnsOf, touched, planFlow}
-use Rattle.plan.specs.declared.Work.{Work}
-use Rattle.plan.specs.declared.Work.the-variants.{Step, Reference}
-use Rattle.plan.specs.Listed.{nodesIn, blocksIn, emptyIn, nodeIn, touchesBy, planIn, Drawn, WorkIn}
-use Rattle.plan.proofs.Holding.{touches-held, key-held, must-limit-held, may-limit-held, work-in}
-use Rattle.rows.specs.Rows.{columnsBy, agesIn, afterWork}
+use Rattle.ages.specs.Plan.{Plan, columnsOf, afterTouch, planFlow}
+use Rattle.plan.specs.declared.PlannedRecord.{PlannedRecord}
+use Rattle.plan.specs.declared.PlannedRecord.the-variants.{Step, Reference}
+use Rattle.plan.specs.Listed.{nodesIn, blocksIn, emptyIn, nodeIn, touchesBy, planIn, Drawn, RecordIn}
+use Rattle.plan.proofs.Holding.{touches-held, key-held, must-limit-held, may-limit-held, record-in}
+use Rattle.rows.specs.Rows.{columnsBy, agesIn, afterRecord}
 use Rattle.tables.specs.Lent.{Lent, agesUsed, agesAt}
-use Rattle.tables.specs.Inner.{loaded, loadedRow, Loads, rowAfter}
-use Rattle.tables.proofs.Meeting.{Agree}
+use Rattle.tables.specs.Inner.{loaded, loadedRow, Loads, rowAfter, AgesAgree}
 
 -- What is loaded from row n on has the row's ages first.
 loaded-age : (count : ℕ) → count ≤ mostBlocks → (n : ℕ) (buffer : List ℕ) → n * count + count ≤ length buffer → (j : ℕ) → j < count → ageOf (loaded (n * count) buffer) j ≡ ageOf (rowAt count buffer n) j
@@ -40,8 +39,8 @@ module _ (columns plan : List ℕ) (drawn : Drawn columns plan) where
   held = planIn columns plan
 
   -- What a touch does to the first columns does not depend on how many more there are.
-  touch-agrees : (m : ℕ) → m < blocksIn plan → (row a : Ages) → Agree (blocksIn plan) row a
-      → Agree (blocksIn plan) (touchAges (columnsBy columns mostBlocks) m row) (touchAges (columnsOf held) m a)
+  touch-agrees : (m : ℕ) → m < blocksIn plan → (row a : Ages) → AgesAgree (blocksIn plan) row a
+      → AgesAgree (blocksIn plan) (touchAges (columnsBy columns mostBlocks) m row) (touchAges (columnsOf held) m a)
   unfolding mustAfter mayAfter
   touch-agrees m inside row a agree =
       record {
@@ -51,10 +50,10 @@ module _ (columns plan : List ℕ) (drawn : Drawn columns plan) where
             (rw (key-held columns plan j h, key-held columns plan m inside, may-limit-held columns plan j h, agree .may j h, agree .may m inside));
       }
 
-  work-agrees : (work : Work) → WorkIn (blocksIn plan) work → (row a : Ages) → Agree (blocksIn plan) row a
-      → Agree (blocksIn plan) (afterWork (columnsBy columns mostBlocks) work row) (inTurn (touched held) (touchesBy work) a)
-  work-agrees Step inside row a agree = agree
-  work-agrees (Reference touch) inside row a agree = touch-agrees (touch .column) inside row a agree
+  record-agrees : (planned : PlannedRecord) → RecordIn (blocksIn plan) planned → (row a : Ages) → AgesAgree (blocksIn plan) row a
+      → AgesAgree (blocksIn plan) (afterRecord (columnsBy columns mostBlocks) planned row) (inTurn (afterTouch held) (touchesBy planned) a)
+  record-agrees Step inside row a agree = agree
+  record-agrees (Reference touch) inside row a agree = touch-agrees (touch .column) inside row a agree
 
   module _ (n : ℕ) (inside : n < nodesIn plan) (lent : Lent)
       (must-room : agesUsed held ≤ length (lent .must)) (may-room : agesUsed held ≤ length (lent .may)) where
@@ -64,20 +63,20 @@ module _ (columns plan : List ℕ) (drawn : Drawn columns plan) where
         record { few = drawn .few-blocks; columns-long = drawn .columns-long; must-in = omega arith; may-in = omega arith }
 
     -- A row that is loaded begins with the node's ages.
-    loaded-agrees : Agree (blocksIn plan) (agesIn (loadedRow (blocksIn plan) n (lent .must) (lent .may))) (agesAt held lent n)
+    loaded-agrees : AgesAgree (blocksIn plan) (agesIn (loadedRow (blocksIn plan) n (lent .must) (lent .may))) (agesAt held lent n)
     loaded-agrees =
         record {
           must = loaded-age (blocksIn plan) (drawn .few-blocks) n (lent .must) (row-loads .must-in);
           may = loaded-age (blocksIn plan) (drawn .few-blocks) n (lent .may) (row-loads .may-in);
         }
 
-    pub after-agrees : Agree (blocksIn plan) (agesIn (rowAfter columns (lent .must) (lent .may) (blocksIn plan) n (nodeIn plan n .work))) (planFlow held .step n (agesAt held lent n))
+    pub after-agrees : AgesAgree (blocksIn plan) (agesIn (rowAfter columns (lent .must) (lent .may) (blocksIn plan) n (nodeIn plan n .what))) (planFlow held .step n (agesAt held lent n))
     after-agrees =
-        subst (Agree (blocksIn plan) (agesIn (rowAfter columns (lent .must) (lent .may) (blocksIn plan) n (nodeIn plan n .work))))
-        (ap (λ (ts : List ColumnTouch). inTurn (touched held) ts (agesAt held lent n)) (sym (touches-held columns plan n inside)))
-        (work-agrees (nodeIn plan n .work) (work-in columns plan drawn n inside) _ (agesAt held lent n) loaded-agrees)
+        subst (AgesAgree (blocksIn plan) (agesIn (rowAfter columns (lent .must) (lent .may) (blocksIn plan) n (nodeIn plan n .what))))
+        (ap (λ (ts : List ColumnTouch). inTurn (afterTouch held) ts (agesAt held lent n)) (sym (touches-held columns plan n inside)))
+        (record-agrees (nodeIn plan n .what) (record-in columns plan drawn n inside) _ (agesAt held lent n) loaded-agrees)
 
-  pub start-agrees : Agree (blocksIn plan) (startAges (columnsBy columns mostBlocks) (emptyIn plan)) (planFlow held .start)
+  pub start-agrees : AgesAgree (blocksIn plan) (startAges (columnsBy columns mostBlocks) (emptyIn plan)) (planFlow held .start)
   unfolding startAges
   start-agrees =
       record {

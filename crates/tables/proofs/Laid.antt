@@ -14,37 +14,21 @@ use Rattle.cache.specs.Ages.{Ages}
 use Rattle.flow.specs.Flow.{Cell, blank, holds, cellAt}
 use Rattle.flow.specs.Passing.{Passing}
 use Rattle.layout.specs.Rows.{markOf, rowOf, cellIn}
-use Rattle.layout.proofs.Shapes.{CellFits, Fitted, fitted-set, table-at, table-past, table-all, table-fitted, table-read}
-use Rattle.layout.proofs.Laid.{Kind, rows-long, over-rows-long, row-read, row-whole, row-stored, rows-over, rows-blank, mark-plain, unmarked, marks-long, over-marks-long, mark-read, mark-stored, marks-over, marks-blank}
+use Rattle.layout.proofs.Fitting.{fitted-set, table-at, table-past, table-all, table-fitted, table-read}
+use Rattle.layout.proofs.Laid.{rows-long, over-rows-long, row-read, row-whole, row-stored, rows-over, rows-blank, mark-plain, mark-zero, marks-long, over-marks-long, mark-read, mark-stored, marks-over, marks-blank}
 use Rattle.ages.specs.Plan.{Plan, planFlow}
 use Rattle.tables.specs.Lent.{Lent, agesUsed, marksUsed, agesAt, tableOf, tableShort, lentOf, over, TablePasses}
+use Rattle.tables.specs.Fitting.{AgesFit, CellAgesFit, TableFits, mustKind, mayKind}
 
--- ---- shapes
-
--- Rows with an age for each block.
-abbrev pub AgesFit : Plan → Ages → Type 0
-AgesFit plan a = (length (a .must) ≡ plan .blocks) × (length (a .may) ≡ plan .blocks)
-
-abbrev pub CellShaped : Plan → Cell Ages → Type 0
-CellShaped plan c = CellFits (AgesFit plan) c
-
-abbrev pub Shaped : Plan → List (Cell Ages) → Type 0
-Shaped plan table = Fitted (AgesFit plan) (plan .nodes) table
-
--- The two kinds of row.
-abbrev pub mustKind : (plan : Plan) → Kind (AgesFit plan)
-mustKind plan = record { count = plan .blocks; numbers = λ a. a .must; fits = λ a h. h .0 }
-
-abbrev pub mayKind : (plan : Plan) → Kind (AgesFit plan)
-mayKind plan = record { count = plan .blocks; numbers = λ a. a .may; fits = λ a h. h .1 }
+-- ---- tables that are read off
 
 -- What a lent table has at a node.
-abbrev pub lentCell : Plan → Lent → ℕ → Cell Ages
+abbrev lentCell : Plan → Lent → ℕ → Cell Ages
 lentCell plan lent n = cellIn (agesAt plan lent) (lent .marks) n
 
 module _ (plan : Plan) where
-  pub shaped-set : {T : List (Cell Ages)} → Shaped plan T → (t : ℕ) (c : Cell Ages) → CellShaped plan c → Shaped plan (set T t c)
-  shaped-set s t c h = fitted-set s t c h
+  pub set-fits : {T : List (Cell Ages)} → TableFits plan T → (t : ℕ) (c : Cell Ages) → CellAgesFit plan c → TableFits plan (set T t c)
+  set-fits s t c h = fitted-set s t c h
 
   pub tableOf-at : (lent : Lent) (n : ℕ) → n < plan .nodes → cellAt (tableOf plan lent) n ≡ lentCell plan lent n
   tableOf-at lent n h = table-at (plan .nodes) (agesAt plan lent) (lent .marks) n h
@@ -56,13 +40,13 @@ module _ (plan : Plan) where
       → (n : ℕ) → Q n (cellAt (tableOf plan lent) n)
   tableOf-all lent Q inside past n = table-all (plan .nodes) (agesAt plan lent) (lent .marks) Q inside past n
 
-  pub shaped-tableOf : (lent : Lent) → Shaped plan (tableOf plan lent)
-  shaped-tableOf lent =
+  pub tableOf-fits : (lent : Lent) → TableFits plan (tableOf plan lent)
+  tableOf-fits lent =
       table-fitted (plan .nodes) (agesAt plan lent) (lent .marks) (AgesFit plan) (λ n. (length-listOf (plan .blocks) _, length-listOf (plan .blocks) _))
 
 -- ---- must ages, may ages and marks, as they are written
 
-module _ (plan : Plan) {T : List (Cell Ages)} (s : Shaped plan T) where
+module _ (plan : Plan) {T : List (Cell Ages)} (s : TableFits plan T) where
   pub must-laid : length (lentOf plan T .must) ≡ agesUsed plan
   must-laid = rows-long (mustKind plan) s
 
@@ -72,7 +56,7 @@ module _ (plan : Plan) {T : List (Cell Ages)} (s : Shaped plan T) where
   pub marks-laid : length (lentOf plan T .marks) ≡ marksUsed plan
   marks-laid = marks-long s
 
-module _ (plan : Plan) {T : List (Cell Ages)} (s : Shaped plan T) (lent : Lent) where
+module _ (plan : Plan) {T : List (Cell Ages)} (s : TableFits plan T) (lent : Lent) where
   pub must-over-long : agesUsed plan ≤ length (lent .must) → length (over plan T lent .must) ≡ length (lent .must)
   must-over-long h = over-rows-long (mustKind plan) s (lent .must) h
 
@@ -82,14 +66,14 @@ module _ (plan : Plan) {T : List (Cell Ages)} (s : Shaped plan T) (lent : Lent) 
   pub marks-over-long : marksUsed plan ≤ length (lent .marks) → length (over plan T lent .marks) ≡ length (lent .marks)
   marks-over-long h = over-marks-long s (lent .marks) h
 
-pub over-over : (plan : Plan) {T U : List (Cell Ages)} → Shaped plan T → Shaped plan U → (lent : Lent) → over plan U (over plan T lent) ≡ over plan U lent
+pub over-over : (plan : Plan) {T U : List (Cell Ages)} → TableFits plan T → TableFits plan U → (lent : Lent) → over plan U (over plan T lent) ≡ over plan U lent
 over-over plan s u lent = λ i. record {
   must = rows-over (mustKind plan) s u (lent .must) i;
   may = rows-over (mayKind plan) s u (lent .may) i;
   marks = marks-over s u (lent .marks) i;
 }
 
-module _ (plan : Plan) {T : List (Cell Ages)} (s : Shaped plan T) (l : List ℕ) where
+module _ (plan : Plan) {T : List (Cell Ages)} (s : TableFits plan T) (l : List ℕ) where
   pub must-stored : (t : ℕ) → t < plan .nodes → (f : ℕ → ℕ) (a : Ages) → a .must ≡ listOf (plan .blocks) f
       → patch (written (lentOf plan T .must) l) (t * plan .blocks) (plan .blocks) f ≡ written (lentOf plan (set T t (holds a)) .must) l
   must-stored t h f a e = row-stored (mustKind plan) s l t h f (holds a) e
@@ -114,7 +98,7 @@ module _ (plan : Plan) {T : List (Cell Ages)} (s : Shaped plan T) (l : List ℕ)
 
 -- ---- a table written and read again
 
-module _ (plan : Plan) {T : List (Cell Ages)} (s : Shaped plan T) (lent : Lent) where
+module _ (plan : Plan) {T : List (Cell Ages)} (s : TableFits plan T) (lent : Lent) where
   -- The rows of a node are those of its cell.
   pub over-ages : (n : ℕ) → n < plan .nodes → (c : Cell Ages) → cellAt T n ≡ c
       → agesAt plan (over plan T lent) n ≡ record { must = rowOf (plan .blocks) (λ a. a .must) c; may = rowOf (plan .blocks) (λ a. a .may) c }
@@ -150,7 +134,7 @@ module _ (plan : Plan) (lent : Lent) where
   not-short must may marks = false-or _ _ (le-ltb _ _ must) (false-or _ _ (le-ltb _ _ may) (le-ltb _ _ marks))
 
 -- A table that meets the equations passes where it is written over buffers that are long enough.
-pub over-passes : (plan : Plan) {T : List (Cell Ages)} → Shaped plan T → Passing (planFlow plan) T → (lent : Lent) → tableShort plan lent ≡ false → TablePasses plan (over plan T lent)
+pub over-passes : (plan : Plan) {T : List (Cell Ages)} → TableFits plan T → Passing (planFlow plan) T → (lent : Lent) → tableShort plan lent ≡ false → TablePasses plan (over plan T lent)
 over-passes plan {T} s meets lent room =
     let long = long-enough plan lent room in
     record {
@@ -158,6 +142,6 @@ over-passes plan {T} s meets lent room =
       may-long = omega (arith, long .1 .0, may-over-long plan s lent (long .1 .0));
       marks-long = omega (arith, long .1 .1, marks-over-long plan s lent (long .1 .1));
       marks-plain = λ n h. omega (arith, marks-read plan s (lent .marks) n h, mark-plain (cellAt T n));
-      unmarked-zero = λ n h z. over-ages plan s lent n h blank (unmarked (cellAt T n) (sym (marks-read plan s (lent .marks) n h) ∙ z));
+      unmarked-zero = λ n h z. over-ages plan s lent n h blank (mark-zero (cellAt T n) (sym (marks-read plan s (lent .marks) n h) ∙ z));
       equations = subst (Passing (planFlow plan)) (sym (table-over plan s lent)) meets;
     }

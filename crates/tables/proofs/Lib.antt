@@ -1,6 +1,6 @@
 pub mod Laid
 pub mod Loading
-pub mod Shaping
+pub mod Fitting
 pub mod Meeting
 pub mod Used
 pub mod After

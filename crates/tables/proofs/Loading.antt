@@ -5,17 +5,12 @@ use Prim.Native.Nat.{ℕ, _+_, _-_, min}
 use native.Mathlib.Omega.{arith}
 use lib.ListN.{getD, length, replicate}
 use Rattle.lists.specs.Lists.{listOf, written}
-use Rattle.lists.specs.Loops.{patch}
 use Rattle.lists.proofs.Loops.{patch-written}
 use Rattle.chart.specs.Geometry.{mostBlocks}
-use Rattle.tables.specs.Inner.{loaded}
+use Rattle.tables.specs.Inner.{loaded, loadedTo}
 
 module _ (buffer : List ℕ) (base : ℕ) where
-  -- The first j ages of a row of zeros, stored.
-  abbrev pub loadedTo : ℕ → List ℕ
-  loadedTo j = patch (replicate mostBlocks 0) 0 j (λ k. getD buffer (base + k) 0)
-
-  pub loaded-whole : (ages : List ℕ) (j : ℕ) → ages ≡ loadedTo j → j ≡ min mostBlocks (length buffer - base) → ages ≡ loaded base buffer
+  pub loaded-whole : (ages : List ℕ) (j : ℕ) → ages ≡ loadedTo buffer base j → j ≡ min mostBlocks (length buffer - base) → ages ≡ loaded base buffer
   loaded-whole ages j e end =
       e
       ∙ patch-written (replicate mostBlocks 0) j (λ k. getD buffer (base + k) 0) (omega arith)

@@ -10,20 +10,16 @@ use Rattle.flow.specs.Flow.{Cell, blank, holds, cellAt}
 use Rattle.flow.specs.Pass.{Run, met, metAt, changes, put}
 use Rattle.layout.specs.Rows.{markOf}
 use Rattle.layout.specs.Joins.{rowMoves}
-use Rattle.layout.proofs.Laid.{mark-stored, mark-kept}
-use Rattle.layout.proofs.Meeting.{larger-tells, smaller-tells, row-taken, row-joined, row-moved}
+use Rattle.layout.proofs.Laid.{mark-stored, mark-stays}
+use Rattle.layout.proofs.Meeting.{max-moves, min-moves, row-taken, row-joined, row-moved}
 use Rattle.ages.specs.Plan.{Plan, columnsOf, planFlow}
 use Rattle.tables.specs.Lent.{Lent, over}
-use Rattle.tables.specs.Inner.{LentRun, overRun, grows, falls, agesMove, takenInto, joinedInto, metInto}
-use Rattle.tables.proofs.Laid.{CellShaped, Shaped, mustKind, mayKind, marks-read}
+use Rattle.tables.specs.Inner.{LentRun, overRun, AgesAgree, grows, falls, agesMove, takenInto, joinedInto, metInto}
+use Rattle.tables.specs.Fitting.{CellAgesFit, TableFits, mustKind, mayKind}
+use Rattle.tables.proofs.Laid.{marks-read}
 
--- Two states whose ages are the same at each block; the row by value may be longer.
-pub record Agree (count : ℕ) (row a : Ages) : Type 0 where
-  pub must : (j : ℕ) → j < count → ageOf (row .must) j ≡ ageOf (a .must) j
-  pub may : (j : ℕ) → j < count → ageOf (row .may) j ≡ ageOf (a .may) j
-
-module _ (plan : Plan) (lent : Lent) (run : Run Ages) (shaped : Shaped plan (run .table)) (t : ℕ) (inside : t < plan .nodes)
-    (row a : Ages) (long : CellShaped plan (holds a)) (agree : Agree (plan .blocks) row a) where
+module _ (plan : Plan) (lent : Lent) (run : Run Ages) (fits : TableFits plan (run .table)) (t : ℕ) (inside : t < plan .nodes)
+    (row a : Ages) (long : CellAgesFit plan (holds a)) (agree : AgesAgree (plan .blocks) row a) where
   abbrev before : LentRun
   before = overRun plan lent run
 
@@ -31,24 +27,24 @@ module _ (plan : Plan) (lent : Lent) (run : Run Ages) (shaped : Shaped plan (run
   unfolding takenInto
   into-blank = λ i. record {
     lent = record {
-      must = row-taken (mustKind plan) shaped (lent .must) t inside (ageOf (row .must)) a (agree .must) long i;
-      may = row-taken (mayKind plan) shaped (lent .may) t inside (ageOf (row .may)) a (agree .may) long i;
-      marks = mark-stored shaped (lent .marks) t inside a i;
+      must = row-taken (mustKind plan) fits (lent .must) t inside (ageOf (row .must)) a (agree .must) long i;
+      may = row-taken (mayKind plan) fits (lent .may) t inside (ageOf (row .may)) a (agree .may) long i;
+      marks = mark-stored fits (lent .marks) t inside a i;
     };
     changed = true;
   }
 
-  module _ (old : Ages) (stands : cellAt (run .table) t ≡ holds old) (was : CellShaped plan (holds old)) where
+  module _ (old : Ages) (stands : cellAt (run .table) t ≡ holds old) (was : CellAgesFit plan (holds old)) where
     abbrev meeting : Ages
     meeting = meetAges (columnsOf plan) old a
 
     must-moved : (c : Bool) → rowMoves grows c (t * plan .blocks) (plan .blocks) (ageOf (row .must)) (before .lent .must) ≡ (c || not (sameRow (meeting .must) (old .must)))
     unfolding meetAges
-    must-moved c = row-moved (mustKind plan) shaped (lent .must) t inside (ageOf (row .must)) a (agree .must) old stands max meeting refl was grows larger-tells c
+    must-moved c = row-moved (mustKind plan) fits (lent .must) t inside (ageOf (row .must)) a (agree .must) old stands max meeting refl was grows max-moves c
 
     may-moved : (c : Bool) → rowMoves falls c (t * plan .blocks) (plan .blocks) (ageOf (row .may)) (before .lent .may) ≡ (c || not (sameRow (meeting .may) (old .may)))
     unfolding meetAges
-    may-moved c = row-moved (mayKind plan) shaped (lent .may) t inside (ageOf (row .may)) a (agree .may) old stands min meeting refl was falls smaller-tells c
+    may-moved c = row-moved (mayKind plan) fits (lent .may) t inside (ageOf (row .may)) a (agree .may) old stands min meeting refl was falls min-moves c
 
     both-moved : agesMove (plan .blocks) t row before ≡ (run .changed || not (sameAges meeting old))
     unfolding sameAges
@@ -61,9 +57,9 @@ module _ (plan : Plan) (lent : Lent) (run : Run Ages) (shaped : Shaped plan (run
     unfolding joinedInto meetAges
     into-held = λ i. record {
       lent = record {
-        must = row-joined (mustKind plan) shaped (lent .must) t inside (ageOf (row .must)) a (agree .must) old stands max meeting refl i;
-        may = row-joined (mayKind plan) shaped (lent .may) t inside (ageOf (row .may)) a (agree .may) old stands min meeting refl i;
-        marks = mark-kept shaped (lent .marks) t old meeting stands i;
+        must = row-joined (mustKind plan) fits (lent .must) t inside (ageOf (row .must)) a (agree .must) old stands max meeting refl i;
+        may = row-joined (mayKind plan) fits (lent .may) t inside (ageOf (row .may)) a (agree .may) old stands min meeting refl i;
+        marks = mark-stays fits (lent .marks) t old meeting stands i;
       };
       changed = both-moved i;
     }
@@ -74,7 +70,7 @@ module _ (plan : Plan) (lent : Lent) (run : Run Ages) (shaped : Shaped plan (run
   met-laid = go (cellAt (run .table) t) refl
     where
       marked : (c : Cell Ages) → cellAt (run .table) t ≡ c → getD (before .lent .marks) t 0 ≡ markOf c
-      marked c e = marks-read plan shaped (lent .marks) t inside ∙ ap markOf e
+      marked c e = marks-read plan fits (lent .marks) t inside ∙ ap markOf e
 
       or-true : (c : Bool) → true ≡ (c || true)
       or-true true = refl
@@ -82,4 +78,4 @@ module _ (plan : Plan) (lent : Lent) (run : Run Ages) (shaped : Shaped plan (run
 
       go : (c : Cell Ages) → cellAt (run .table) t ≡ c → metInto (plan .blocks) t row before ≡ overRun plan lent (put (planFlow plan) a t run)
       go blank e = rw (marked blank e, e) (into-blank ∙ (λ i. record { lent = over plan (set (run .table) t (holds a)) lent; changed = or-true (run .changed) i }))
-      go (holds old) e = rw (marked (holds old) e, e) (into-held old e (subst (CellShaped plan) e (shaped .rows t)))
+      go (holds old) e = rw (marked (holds old) e, e) (into-held old e (subst (CellAgesFit plan) e (fits .cells-fit t)))

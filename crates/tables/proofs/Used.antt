@@ -8,10 +8,11 @@ use lib.ListN.{getD, length, take}
 use lib.Seq.{length-take-le, take-take}
 use Rattle.lists.proofs.Listed.{take-agree}
 use Rattle.flow.specs.Passing.{Passing}
-use Rattle.layout.proofs.Shapes.{table-same}
+use Rattle.layout.proofs.Fitting.{table-same}
 use Rattle.layout.proofs.Laid.{row-used}
 use Rattle.ages.specs.Plan.{Plan, planFlow}
 use Rattle.tables.specs.Lent.{Lent, agesUsed, marksUsed, agesAt, tableOf, tableShort, TablePasses, SameUsed}
+use Rattle.tables.specs.Inner.{usedPart}
 use Rattle.tables.proofs.Laid.{long-enough, not-short}
 
 pub same-used-back : (plan : Plan) (one other : Lent) → SameUsed plan one other → SameUsed plan other one
@@ -50,15 +51,6 @@ module _ (plan : Plan) (one other : Lent) (same : SameUsed plan one other) where
         unmarked-zero = λ n h z. sym (used-ages n h) ∙ p .unmarked-zero n h (used-mark n h ∙ z);
         equations = subst (Passing (planFlow plan)) used-table (p .equations);
       }
-
--- The used part of a lent table, alone.
-abbrev pub usedPart : Plan → Lent → Lent
-usedPart plan lent =
-    record {
-      must = take (agesUsed plan) (lent .must);
-      may = take (agesUsed plan) (lent .may);
-      marks = take (marksUsed plan) (lent .marks);
-    }
 
 pub part-same : (plan : Plan) (lent : Lent) → tableShort plan lent ≡ false → SameUsed plan (usedPart plan lent) lent
 part-same plan lent room =

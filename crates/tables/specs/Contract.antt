@@ -1,5 +1,5 @@
--- What the lent slices of a contract hold, put together: a table's three, at entry and at exit, and the ages of two rows. Nothing here is
--- document 01's.
+-- What the lent slices of a contract hold, put together: a table's three, at entry and at exit, and the ages of a row. Nothing here is a rule
+-- of the tool: contracts say in a line what they promise.
 use mathlib.Core.Bool.{Bool}
 use denote.Ref.{now}
 use Rattle.lists.specs.Slices.{Passed, Slice}

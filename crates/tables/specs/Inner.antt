@@ -1,21 +1,22 @@
--- What the functions on lent tables promise one another: stores over places of a buffer. Nothing here is document 01's; laws lead from
--- it to the meetings of `flow`.
-use Prim.Native.Nat.{ℕ, _+_, _-_, _*_, _≤_, max, min}
+-- What the functions on lent tables and their laws promise one another: stores over places of a buffer, rows by value, and used parts.
+-- Nothing here is a rule of the tool: laws lead from it to the meetings of `flow`, which has rules 6.6 and 9.4.
+use Prim.Native.Nat.{ℕ, _+_, _-_, _*_, _≤_, _<_, max, min}
 use mathlib.Core.Bool.{Bool, true, cond}
 use mathlib.Core.List.{List}
-use lib.ListN.{getD, set, length, replicate}
+use mathlib.Core.Path.{_≡_}
+use lib.ListN.{getD, set, length, take, replicate}
 use lib.Dec.{ltb, eqb}
 use Rattle.lists.specs.Lists.{listOf, written}
 use Rattle.lists.specs.Loops.{patch}
 use Rattle.chart.specs.Geometry.{mostBlocks}
-use Rattle.plan.specs.declared.Work.{Work}
+use Rattle.plan.specs.declared.PlannedRecord.{PlannedRecord}
 use Rattle.rows.specs.declared.Row.{Row}
-use Rattle.rows.specs.Rows.{columnsBy, agesIn, asRow, afterWork}
+use Rattle.rows.specs.Rows.{columnsBy, agesIn, asRow, afterRecord}
 use Rattle.cache.specs.Ages.{Ages, ageOf}
 use Rattle.flow.specs.Pass.{Run}
 use Rattle.layout.specs.Joins.{joinedRow, rowMoves}
 use Rattle.ages.specs.Plan.{Plan}
-use Rattle.tables.specs.Lent.{Lent, tableOf, over}
+use Rattle.tables.specs.Lent.{Lent, agesUsed, marksUsed, tableOf, over}
 
 -- A lent table, and whether anything has changed.
 pub record LentRun : Type 0 where
@@ -30,6 +31,15 @@ overRun plan lent run = record { lent = over plan (run .table) lent; changed = r
 abbrev pub runIn : Plan → Lent → Bool → Run Ages
 runIn plan lent changed = record { table = tableOf plan lent; changed = changed }
 
+-- The used part of a lent table, alone.
+abbrev pub usedPart : Plan → Lent → Lent
+usedPart plan lent =
+    record {
+      must = take (agesUsed plan) (lent .must);
+      may = take (agesUsed plan) (lent .may);
+      marks = take (marksUsed plan) (lent .marks);
+    }
+
 -- There is room for so many rows of so many ages, and for their marks.
 pub record Roomy (nodes count : ℕ) (must may marks : List ℕ) : Type 0 where
   pub must-room : nodes * count ≤ length must
@@ -40,6 +50,10 @@ pub record Roomy (nodes count : ℕ) (must may marks : List ℕ) : Type 0 where
 abbrev pub loaded : ℕ → List ℕ → List ℕ
 loaded base buffer =
     written (listOf (min mostBlocks (length buffer - base)) (λ j. getD buffer (base + j) 0)) (replicate mostBlocks 0)
+
+-- The first j ages of a row of zeros, stored.
+abbrev pub loadedTo : List ℕ → ℕ → ℕ → List ℕ
+loadedTo buffer base j = patch (replicate mostBlocks 0) 0 j (λ k. getD buffer (base + k) 0)
 
 -- Row n of a lent table, by value.
 abbrev pub loadedRow : ℕ → ℕ → List ℕ → List ℕ → Row
@@ -53,9 +67,14 @@ pub record Loads (columns must may : List ℕ) (count n : ℕ) : Type 0 where
   pub may-in : n * count + count ≤ length may
 
 -- Row n after a record, by value.
-abbrev pub rowAfter : List ℕ → List ℕ → List ℕ → ℕ → ℕ → Work → Row
-rowAfter columns must may count n work =
-    asRow (afterWork (columnsBy columns mostBlocks) work (agesIn (loadedRow count n must may)))
+abbrev pub rowAfter : List ℕ → List ℕ → List ℕ → ℕ → ℕ → PlannedRecord → Row
+rowAfter columns must may count n planned =
+    asRow (afterRecord (columnsBy columns mostBlocks) planned (agesIn (loadedRow count n must may)))
+
+-- Two states whose ages are the same at each block; the row by value may be longer.
+pub record AgesAgree (count : ℕ) (row a : Ages) : Type 0 where
+  pub must : (j : ℕ) → j < count → ageOf (row .must) j ≡ ageOf (a .must) j
+  pub may : (j : ℕ) → j < count → ageOf (row .may) j ≡ ageOf (a .may) j
 
 -- A must age moves where the new one is larger, a may age where it is smaller.
 abbrev pub grows : ℕ → ℕ → Bool
@@ -81,6 +100,7 @@ abbrev pub agesMove : ℕ → ℕ → Ages → LentRun → Bool
 agesMove count n a run =
     rowMoves falls (rowMoves grows (run .changed) (n * count) count (ageOf (a .must)) (run .lent .must)) (n * count) count (ageOf (a .may)) (run .lent .may)
 
+-- A marked row keeps the larger must ages and the smaller may ages.
 unfoldable pub joinedInto : ℕ → ℕ → Ages → LentRun → LentRun
 joinedInto count n a run =
     record {
@@ -92,6 +112,7 @@ joinedInto count n a run =
       changed = agesMove count n a run;
     }
 
+-- The one or the other, by the mark.
 abbrev pub metInto : ℕ → ℕ → Ages → LentRun → LentRun
 metInto count n a run =
     cond (eqb (getD (run .lent .marks) n 0) 0) (takenInto count n a (run .lent)) (joinedInto count n a run)

@@ -1,4 +1,5 @@
-// Tables of ages in lent buffers: a row loaded, filled, or met into what is there.
+// Rows of a table in lent buffers: loaded by value, filled, or met into what is there (rules 6.6 and 9.4). None of the functions refuses: callers
+// keep that the places lie within the buffers. Nothing is written but the places that are named, and the mark of a row that is met into.
 mod stepped;
 
 ghost use mathlib.Core.Path.{_≡_};
@@ -68,7 +69,7 @@ fn load_row(must: &[u8], may: &[u8], blocks: usize, n: usize) -> Row
     }
 }
 
-// One value into so many places from `base` on.
+// Stores one value in so many places from `base` on.
 pub fn fill(buffer: &mut [u8], base: usize, count: usize, value: u8)
     requires { ⌜ base + count ≤ length (now buffer) ⌝ }
     ensures { λ r. ⌜ now (buffer .exit) ≡ patch (now (buffer .entry)) base count (λ j. value) ⌝ }
@@ -78,7 +79,7 @@ pub fn fill(buffer: &mut [u8], base: usize, count: usize, value: u8)
     }
 }
 
-// The ages into the places from `base` on, as they are.
+// Stores the ages in the places from `base` on, as they are.
 fn put_ages(buffer: &mut [u8], base: usize, blocks: usize, ages: &[u8])
     requires { ⌜ (blocks ≤ length (now ages)) × (base + blocks ≤ length (now buffer)) ⌝ }
     ensures { λ r. ⌜ now (buffer .exit) ≡ patch (now (buffer .entry)) base blocks (ageOf (now (ages .entry))) ⌝ }
@@ -88,13 +89,14 @@ fn put_ages(buffer: &mut [u8], base: usize, blocks: usize, ages: &[u8])
     }
 }
 
+// The larger of two ages.
 fn larger_of(a: u8, b: u8) -> u8
     ensures { λ r. ⌜ r ≡ max a b ⌝ }
 {
     if a < b { b } else { a }
 }
 
-// The larger of each age and what stands there; `changed`, or whether anything grew.
+// Stores the larger of each age and what stands there. Answers true if `changed` was, or if anything grew.
 fn put_larger(buffer: &mut [u8], base: usize, blocks: usize, ages: &[u8], changed: bool) -> bool
     requires { ⌜ (blocks ≤ length (now ages)) × (base + blocks ≤ length (now buffer)) ⌝ }
     ensures { λ r. ⌜ RowJoined max grows base blocks (ageOf (now (ages .entry))) changed (now (buffer .entry)) (now (buffer .exit)) r ⌝ }
@@ -109,7 +111,7 @@ fn put_larger(buffer: &mut [u8], base: usize, blocks: usize, ages: &[u8], change
     any
 }
 
-// The smaller of each age and what stands there; `changed`, or whether anything fell.
+// Stores the smaller of each age and what stands there. Answers true if `changed` was, or if anything fell.
 fn put_smaller(buffer: &mut [u8], base: usize, blocks: usize, ages: &[u8], changed: bool) -> bool
     requires { ⌜ (blocks ≤ length (now ages)) × (base + blocks ≤ length (now buffer)) ⌝ }
     ensures { λ r. ⌜ RowJoined min falls base blocks (ageOf (now (ages .entry))) changed (now (buffer .entry)) (now (buffer .exit)) r ⌝ }
@@ -124,8 +126,8 @@ fn put_smaller(buffer: &mut [u8], base: usize, blocks: usize, ages: &[u8], chang
     any
 }
 
-// Ages met into row n: the larger must ages and the smaller may ages, or the ages as they are where n is not marked, which is marked
-// then. `changed`, or whether anything changed.
+// Meets ages into row n: it keeps the larger must ages and the smaller may ages; without a mark it takes the ages as they are, and the mark.
+// Answers true if `changed` was, or if anything is a change by rule 9.4.
 pub fn meet_row(
     must: &mut [u8],
     may: &mut [u8],

@@ -8,65 +8,65 @@ use lib.Dec.{ltb, eqb}
 use lib.ListN.{length}
 use Rattle.lists.specs.Choice.{first}
 use Rattle.lists.proofs.Choice.{and-true}
-use Rattle.refusals.specs.declared.Refusal.the-variants.{BoundsLength, Costs, FloorAboveCeiling, FloorAtUnmarked}
+use Rattle.refusals.specs.declared.Refusal.the-variants.{BoundsLength, MissBelowHit, FloorAboveCeiling, FloorAtUnmarked}
 use Rattle.ages.specs.Plan.{Plan}
-use Rattle.costs.specs.Costs.{Prices, lowTotal, highTotal}
+use Rattle.costs.specs.Costs.{Figures, lowTotal, highTotal}
 use Rattle.tables.specs.Lent.{Lent, tableOf}
 use Rattle.totals.specs.declared.Totals.the-variants.{Between, Refused}
 use Rattle.totals.specs.Totals.{crossedAt, floorAtUnmarked, totalledBy}
 
-module _ (plan : Plan) (lent : Lent) (prices : Prices) (nodes : ℕ) (nodes-are : nodes ≡ plan .nodes) where
-  -- The tests of rows 14 to 17.
+module _ (plan : Plan) (lent : Lent) (figures : Figures) (nodes : ℕ) (nodes-are : nodes ≡ plan .nodes) where
+  -- The tests of rules 11.14 to 11.17.
   abbrev whole : ℕ → Bool
-  whole n = eqb (length (prices .floors)) n && eqb (length (prices .ceilings)) n
+  whole n = eqb (length (figures .floors)) n && eqb (length (figures .ceilings)) n
 
   abbrev dear : Bool
-  dear = ltb (prices .missCost) (prices .hitCost)
+  dear = ltb (figures .costs .miss) (figures .costs .hit)
 
   abbrev crossed : ℕ → ℕ
-  crossed n = first n (crossedAt (prices .floors) (prices .ceilings))
+  crossed n = first n (crossedAt (figures .floors) (figures .ceilings))
 
   abbrev unmarked : ℕ → ℕ
-  unmarked n = first n (floorAtUnmarked (lent .marks) (prices .floors))
+  unmarked n = first n (floorAtUnmarked (lent .marks) (figures .floors))
 
   -- What a test says of so many nodes it says of the plan's.
-  moved : {X : Type 0} (test : ℕ → X) (x : X) → test nodes ≡ x → test (plan .nodes) ≡ x
-  moved test x e = sym (ap test nodes-are) ∙ e
+  test-at-plan : {X : Type 0} (test : ℕ → X) (x : X) → test nodes ≡ x → test (plan .nodes) ≡ x
+  test-at-plan test x e = sym (ap test nodes-are) ∙ e
 
-  pub length-answer : whole nodes ≡ false → Refused BoundsLength ≡ totalledBy plan lent prices
+  pub length-answer : whole nodes ≡ false → Refused BoundsLength ≡ totalledBy plan lent figures
   unfolding totalledBy
-  length-answer e = rw (moved whole false e)
+  length-answer e = rw (test-at-plan whole false e)
 
   module _ (fit : whole nodes ≡ true) where
-    pub fit-rooms : (nodes ≤ length (prices .floors)) × (nodes ≤ length (prices .ceilings))
+    pub fit-rooms : (nodes ≤ length (figures .floors)) × (nodes ≤ length (figures .ceilings))
     fit-rooms =
-        let long = and-true (eqb (length (prices .floors)) nodes) (eqb (length (prices .ceilings)) nodes) fit in
-        (omega (arith, eqb-true (length (prices .floors)) nodes (long .0)), omega (arith, eqb-true (length (prices .ceilings)) nodes (long .1)))
+        let long = and-true (eqb (length (figures .floors)) nodes) (eqb (length (figures .ceilings)) nodes) fit in
+        (omega (arith, eqb-true (length (figures .floors)) nodes (long .0)), omega (arith, eqb-true (length (figures .ceilings)) nodes (long .1)))
 
-    pub costs-answer : dear ≡ true → Refused Costs ≡ totalledBy plan lent prices
+    pub costs-answer : dear ≡ true → Refused MissBelowHit ≡ totalledBy plan lent figures
     unfolding totalledBy
-    costs-answer e = rw (moved whole true fit, e)
+    costs-answer e = rw (test-at-plan whole true fit, e)
 
     module _ (cheap : dear ≡ false) (here : ℕ) (is : here ≡ crossed nodes) where
       at-crossed : (t : Bool) → ltb here nodes ≡ t → ltb (crossed (plan .nodes)) (plan .nodes) ≡ t
-      at-crossed t e = moved (λ n. ltb (crossed n) n) t (ap (λ (k : ℕ). ltb k nodes) (sym is) ∙ e)
+      at-crossed t e = test-at-plan (λ n. ltb (crossed n) n) t (ap (λ (k : ℕ). ltb k nodes) (sym is) ∙ e)
 
-      pub crossed-answer : ltb here nodes ≡ true → Refused (FloorAboveCeiling here) ≡ totalledBy plan lent prices
+      pub crossed-answer : ltb here nodes ≡ true → Refused (FloorAboveCeiling here) ≡ totalledBy plan lent figures
       unfolding totalledBy
-      crossed-answer e = rw (moved whole true fit, cheap, at-crossed true e) (ap (λ (k : ℕ). Refused (FloorAboveCeiling k)) (is ∙ ap crossed nodes-are))
+      crossed-answer e = rw (test-at-plan whole true fit, cheap, at-crossed true e) (ap (λ (k : ℕ). Refused (FloorAboveCeiling k)) (is ∙ ap crossed nodes-are))
 
       module _ (uncrossed : ltb here nodes ≡ false) (there : ℕ) (at : there ≡ unmarked nodes) where
         at-unmarked : (t : Bool) → ltb there nodes ≡ t → ltb (unmarked (plan .nodes)) (plan .nodes) ≡ t
-        at-unmarked t e = moved (λ n. ltb (unmarked n) n) t (ap (λ (k : ℕ). ltb k nodes) (sym at) ∙ e)
+        at-unmarked t e = test-at-plan (λ n. ltb (unmarked n) n) t (ap (λ (k : ℕ). ltb k nodes) (sym at) ∙ e)
 
-        pub unmarked-answer : ltb there nodes ≡ true → Refused (FloorAtUnmarked there) ≡ totalledBy plan lent prices
+        pub unmarked-answer : ltb there nodes ≡ true → Refused (FloorAtUnmarked there) ≡ totalledBy plan lent figures
         unfolding totalledBy
         unmarked-answer e =
-            rw (moved whole true fit, cheap, at-crossed false uncrossed, at-unmarked true e)
+            rw (test-at-plan whole true fit, cheap, at-crossed false uncrossed, at-unmarked true e)
             (ap (λ (k : ℕ). Refused (FloorAtUnmarked k)) (at ∙ ap unmarked nodes-are))
 
-        pub sums-answer : ltb there nodes ≡ false → (low high : ℕ) → low ≡ lowTotal plan (tableOf plan lent) prices → high ≡ highTotal plan (tableOf plan lent) prices
-            → Between low high ≡ totalledBy plan lent prices
+        pub sums-answer : ltb there nodes ≡ false → (low high : ℕ) → low ≡ lowTotal plan (tableOf plan lent) figures → high ≡ highTotal plan (tableOf plan lent) figures
+            → Between low high ≡ totalledBy plan lent figures
         unfolding totalledBy
         sums-answer e low high l h =
-            rw (moved whole true fit, cheap, at-crossed false uncrossed, at-unmarked false e) (λ i. Between (l i) (h i))
+            rw (test-at-plan whole true fit, cheap, at-crossed false uncrossed, at-unmarked false e) (λ i. Between (l i) (h i))

@@ -16,10 +16,10 @@ use Rattle.flow.specs.Flow.{cellAt}
 use Rattle.ages.specs.declared.ColumnTouch.{ColumnTouch}
 use Rattle.ages.specs.Plan.{Plan, touchesIn}
 use Rattle.classes.specs.Class.{unreached, hit, miss, none, nodeClass, tableClasses}
-use Rattle.costs.specs.Costs.{Prices, highRate, lowRate, visitCost, totalBy, classesAt, classCost}
+use Rattle.costs.specs.Costs.{Costs, Figures, highRate, lowRate, visitCost, totalBy, classesAt, classCost}
 use Rattle.costs.proofs.Classed.{node-cost}
-use Rattle.plan.specs.declared.Work.{Work}
-use Rattle.plan.specs.declared.Work.the-variants.{Step, Reference}
+use Rattle.plan.specs.declared.PlannedRecord.{PlannedRecord}
+use Rattle.plan.specs.declared.PlannedRecord.the-variants.{Step, Reference}
 use Rattle.plan.specs.Listed.{nodesIn, nodeIn, touchesBy, planIn}
 use Rattle.plan.proofs.Holding.{touches-held}
 use Rattle.tables.specs.Lent.{Lent, tableOf}
@@ -39,27 +39,27 @@ pub small-more : (n m : ℕ) (sums : Sums) → n ≤ m → Small n sums → Smal
 small-more n m sums h s = record { low-most = omega (arith, s .low-most); high-most = omega (arith, s .high-most) }
 
 -- Where the costs have 16 bits, so has what a visit counts; and with floor and ceiling of 16 bits, one node more is one time the most more.
-module _ (prices : Prices) (h : prices .hitCost ≤ 65535) (g : prices .missCost ≤ 65535) (class : ℕ) where
-  pub low-rate-most : lowRate prices class ≤ 65535
-  low-rate-most = cond-most (eqb class miss) (prices .missCost) (prices .hitCost) 65535 g h
+module _ (costs : Costs) (h : costs .hit ≤ 65535) (g : costs .miss ≤ 65535) (class : ℕ) where
+  pub low-rate-most : lowRate costs class ≤ 65535
+  low-rate-most = cond-most (eqb class miss) (costs .miss) (costs .hit) 65535 g h
 
-  pub high-rate-most : highRate prices class ≤ 65535
-  high-rate-most = cond-most (eqb class hit) (prices .hitCost) (prices .missCost) 65535 h g
+  pub high-rate-most : highRate costs class ≤ 65535
+  high-rate-most = cond-most (eqb class hit) (costs .hit) (costs .miss) 65535 h g
 
   cost-most : (rate : ℕ → ℕ) → rate class ≤ 65535 → classCost rate class ≤ 65535
   cost-most rate most = cond-most (eqb class unreached || eqb class none) 0 (rate class) 65535 (omega arith) most
 
-  pub small-turn : (floor ceiling : ℕ) → floor ≤ 65535 → ceiling ≤ 65535 → (n : ℕ) (sums : Sums) → Small n sums → Small (n + 1) (nodeAdded prices class floor ceiling sums)
+  pub small-turn : (floor ceiling : ℕ) → floor ≤ 65535 → ceiling ≤ 65535 → (n : ℕ) (sums : Sums) → Small n sums → Small (n + 1) (nodeAdded costs class floor ceiling sums)
   small-turn floor ceiling f c n sums s =
       record {
-        low-most = omega (arith, s .low-most, added-most floor (classCost (lowRate prices) class) f (cost-most (lowRate prices) low-rate-most));
-        high-most = omega (arith, s .high-most, added-most ceiling (classCost (highRate prices) class) c (cost-most (highRate prices) high-rate-most));
+        low-most = omega (arith, s .low-most, added-most floor (classCost (lowRate costs) class) f (cost-most (lowRate costs) low-rate-most));
+        high-most = omega (arith, s .high-most, added-most ceiling (classCost (highRate costs) class) c (cost-most (highRate costs) high-rate-most));
       }
 
 -- A turn of the loop over the nodes.
-pub sums-turn : (prices : Prices) (classes : List ℕ) (n : ℕ) (sums : Sums) → sums ≡ sumsTo prices classes n
-    → nodeAdded prices (getD classes n 0) (getD (prices .floors) n 0) (getD (prices .ceilings) n 0) sums ≡ sumsTo prices classes (n + 1)
-sums-turn prices classes n sums e = rw (add-one, e)
+pub sums-turn : (figures : Figures) (classes : List ℕ) (n : ℕ) (sums : Sums) → sums ≡ sumsTo figures classes n
+    → nodeAdded (figures .costs) (getD classes n 0) (getD (figures .floors) n 0) (getD (figures .ceilings) n 0) sums ≡ sumsTo figures classes (n + 1)
+sums-turn figures classes n sums e = rw (add-one, e)
 
 -- A visit that counts nothing adds nothing.
 pub nothing-added : (floor ceiling : ℕ) (sums : Sums) → sums ≡ record { low = sums .low + floor * 0; high = sums .high + ceiling * 0 }
@@ -70,7 +70,7 @@ nothing-added floor ceiling sums =
 
 -- ---- the sums are the totals
 
-few-touches : (work : Work) → length (touchesBy work) ≤ 1
+few-touches : (planned : PlannedRecord) → length (touchesBy planned) ≤ 1
 few-touches Step = omega arith
 few-touches (Reference touch) = omega arith
 
@@ -87,7 +87,7 @@ module _ (columns plan : List ℕ) (lent : Lent) (classes array : List ℕ) wher
 
     cost-is : (rate : ℕ → ℕ) (n : ℕ) → n < nodesIn plan → classCost rate (getD classes n 0) ≡ visitCost (classesAt held n) rate (cellAt (tableOf held lent) n)
     cost-is rate n inside =
-        let few : length (touchesIn held n) ≤ 1 = subst (λ (touches : List ColumnTouch). length touches ≤ 1) (sym (touches-held columns plan n inside)) (few-touches (nodeIn plan n .work)) in
+        let few : length (touchesIn held n) ≤ 1 = subst (λ (touches : List ColumnTouch). length touches ≤ 1) (sym (touches-held columns plan n inside)) (few-touches (nodeIn plan n .what)) in
         ap (classCost rate) (class-is n inside) ∙ sym (node-cost rate held n few (cellAt (tableOf held lent) n))
 
     pub sum-is : (rate : ℕ → ℕ) (times : List ℕ) → sumOf (nodesIn plan) (λ n. getD times n 0 * classCost rate (getD classes n 0)) ≡ totalBy (nodesIn plan) (classesAt held) (tableOf held lent) rate times

@@ -1,20 +1,21 @@
--- What the totals' functions promise one another: what a node of a class adds to the two sums. Nothing here is document 01's.
+-- What the totals' functions promise one another: what a node of a class adds to the two sums, and how large these can get. Nothing here is a rule
+-- of the tool: `costs` has the sums of rules 10.2 and 10.3, and laws lead there.
 use Prim.Native.Nat.{ℕ, _+_, _*_, _≤_}
-use mathlib.Core.List.{List, []}
+use mathlib.Core.List.{List}
 use lib.ListN.{getD}
 use Rattle.lists.specs.Lists.{sumOf}
-use Rattle.costs.specs.Costs.{Prices, highRate, lowRate, classCost}
+use Rattle.costs.specs.Costs.{Costs, Figures, highRate, lowRate, classCost}
 use Rattle.totals.specs.declared.sums.Tariff.{Tariff}
 use Rattle.totals.specs.declared.sums.Sums.{Sums}
 
--- A tariff, floors and ceilings, put together.
-abbrev pub pricesOf : Tariff → List ℕ → List ℕ → Prices
-pricesOf tariff floors ceilings =
-    record { hitCost = tariff .hit; missCost = tariff .miss; floors = floors; ceilings = ceilings }
+-- The costs that a tariff says.
+abbrev pub costsOf : Tariff → Costs
+costsOf tariff = record { hit = tariff .hit; miss = tariff .miss }
 
--- Prices of which the costs alone count.
-abbrev pub costsAlone : Tariff → Prices
-costsAlone tariff = pricesOf tariff [] []
+-- A tariff, floors and ceilings, put together.
+abbrev pub figuresOf : Tariff → List ℕ → List ℕ → Figures
+figuresOf tariff floors ceilings =
+    record { costs = costsOf tariff; floors = floors; ceilings = ceilings }
 
 -- The most that one node adds to a sum.
 abbrev pub mostAdded : ℕ
@@ -26,17 +27,17 @@ pub record Small (nodes : ℕ) (sums : Sums) : Type 0 where
   pub high-most : sums .high ≤ nodes * mostAdded
 
 -- The sums with one node of a class added.
-abbrev pub nodeAdded : Prices → ℕ → ℕ → ℕ → Sums → Sums
-nodeAdded prices class floor ceiling sums =
+abbrev pub nodeAdded : Costs → ℕ → ℕ → ℕ → Sums → Sums
+nodeAdded costs class floor ceiling sums =
     record {
-      low = sums .low + floor * classCost (lowRate prices) class;
-      high = sums .high + ceiling * classCost (highRate prices) class;
+      low = sums .low + floor * classCost (lowRate costs) class;
+      high = sums .high + ceiling * classCost (highRate costs) class;
     }
 
 -- The sums over the first n nodes, which have these classes.
-abbrev pub sumsTo : Prices → List ℕ → ℕ → Sums
-sumsTo prices classes n =
+abbrev pub sumsTo : Figures → List ℕ → ℕ → Sums
+sumsTo figures classes n =
     record {
-      low = sumOf n (λ k. getD (prices .floors) k 0 * classCost (lowRate prices) (getD classes k 0));
-      high = sumOf n (λ k. getD (prices .ceilings) k 0 * classCost (highRate prices) (getD classes k 0));
+      low = sumOf n (λ k. getD (figures .floors) k 0 * classCost (lowRate (figures .costs)) (getD classes k 0));
+      high = sumOf n (λ k. getD (figures .ceilings) k 0 * classCost (highRate (figures .costs)) (getD classes k 0));
     }

@@ -1,4 +1,5 @@
-// The floors and ceilings: the first node at which they are refused.
+// Finds the first node at which floors and ceilings are refused (rules 11.16 and 11.17); the answer is N where there is none. Callers keep that there
+// is one of each for every node.
 ghost use mathlib.Core.Path.{_≡_};
 ghost use Prim.Native.Nat.{_≤_};
 ghost use lib.ListN.{length};

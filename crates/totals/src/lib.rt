@@ -1,11 +1,12 @@
-// The two totals of a lent table.
+// The totals: answers the low and the high total of a lent table, or refuses with the first of 1 to 11 and 13 to 17 that applies. It looks at the
+// used parts of the table alone, and writes to nothing that is lent.
 mod bounds;
 mod sums;
 
 ghost use mathlib.Core.Path.{_≡_};
 ghost use Rattle.plan.specs.Listed.{DrawnIn, planAt};
 ghost use Rattle.tables.specs.Contract.{entryTable, RoomFor};
-ghost use Rattle.totals.specs.Totals.{entryPrices, totalledBy, totals, totalsSay, totalSays};
+ghost use Rattle.totals.specs.Totals.{entryFigures, totalledBy, totals, totalsSay, totalSays};
 use crate::bounds::first_crossed;
 use crate::bounds::first_floor_at_unmarked;
 use crate::sums::Tariff;
@@ -34,7 +35,7 @@ fn total_drawn(
 ) -> Totals
     requires { ⌜ DrawnIn columns plan ⌝ }
     requires { ⌜ RoomFor plan must may marks ⌝ }
-    ensures { λ r. ⌜ r ≡ totalledBy (planAt columns plan) (entryTable must may marks) (entryPrices (tariff .hit) (tariff .miss) floors ceilings) ⌝ }
+    ensures { λ r. ⌜ r ≡ totalledBy (planAt columns plan) (entryTable must may marks) (entryFigures (tariff .hit) (tariff .miss) floors ceilings) ⌝ }
 {
     let nodes = plan::nodes_in(plan);
     let whole = (floors.len() == nodes) & (ceilings.len() == nodes);
@@ -42,7 +43,7 @@ fn total_drawn(
         return Totals::Refused(Refusal::BoundsLength);
     }
     if tariff.miss < tariff.hit {
-        return Totals::Refused(Refusal::Costs);
+        return Totals::Refused(Refusal::MissBelowHit);
     }
     let crossed = first_crossed(floors, ceilings, nodes);
     if crossed < nodes {
@@ -61,8 +62,8 @@ fn total_drawn(
     }
 }
 
-// The two totals of a lent table, or the first of refusals 1 to 11 and 13 to 17 that applies. It reads only the used parts of the table and
-// writes nothing.
+// Answers for any bytes, lent table, costs, floors and ceilings: the two totals (rules 10.2 and 10.3), or the first of refusals 1 to 11 and 13 to 17
+// that applies (rules 12.6 and 12.7).
 pub fn total(
     chart: &[u8],
     must: &[u8],
@@ -73,8 +74,8 @@ pub fn total(
     floors: &[u16],
     ceilings: &[u16],
 ) -> Totals
-    ensures { λ r. ⌜ r ≡ totals (now (chart .entry)) (entryTable must may marks) (entryPrices hit miss floors ceilings) ⌝ }
-    ensures { λ r. ⌜ totalsSay r ≡ totalSays (now (chart .entry)) (entryTable must may marks) (entryPrices hit miss floors ceilings) ⌝ }
+    ensures { λ r. ⌜ r ≡ totals (now (chart .entry)) (entryTable must may marks) (entryFigures hit miss floors ceilings) ⌝ }
+    ensures { λ r. ⌜ totalsSay r ≡ totalSays (now (chart .entry)) (entryTable must may marks) (entryFigures hit miss floors ceilings) ⌝ }
 {
     let mut columns = [0u8; plan::COLUMNS];
     let mut plan = [0u16; plan::LENGTH];
@@ -86,8 +87,8 @@ pub fn total(
     let answer = checker::check_drawn(&columns, &plan, must, may, marks);
     match answer {
         Checked::Refused(refusal) => Totals::Refused(refusal),
-        Checked::Fails => Totals::Refused(Refusal::NotPassing),
-        Checked::Passes => total_drawn(
+        Checked::No => Totals::Refused(Refusal::NotPassing),
+        Checked::Yes => total_drawn(
             &columns,
             &plan,
             must,

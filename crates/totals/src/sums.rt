@@ -1,11 +1,12 @@
-// The two sums over the nodes of a table, by their classes.
+// Works out both sums over the nodes by their classes (rules 10.2 and 10.3). Callers keep that each node has a class, a floor and a ceiling, and
+// that there are no more nodes than a chart may have: then no sum overflows. Nothing is refused here.
 ghost use mathlib.Core.Path.{_≡_};
 ghost use Prim.Native.Nat.{_≤_};
 ghost use lib.ListN.{length};
 ghost use Rattle.chart.specs.Geometry.{mostNodes};
 ghost use Rattle.costs.specs.Costs.{lowRate, highRate};
-ghost use Rattle.totals.specs.Totals.{entryPrices};
-ghost use Rattle.totals.specs.Inner.{costsAlone, Small, nodeAdded, sumsTo};
+ghost use Rattle.totals.specs.Totals.{entryFigures};
+ghost use Rattle.totals.specs.Inner.{costsOf, Small, nodeAdded, sumsTo};
 
 // What a hit and what a miss cost.
 pub struct Tariff {
@@ -21,7 +22,7 @@ pub(crate) struct Sums {
 
 // What the low total counts for a visit of a reference of this class: the miss cost for a miss, else the hit cost.
 fn low_rate(class: u8, tariff: Tariff) -> u16
-    ensures { λ r. ⌜ r ≡ lowRate (costsAlone tariff) class ⌝ }
+    ensures { λ r. ⌜ r ≡ lowRate (costsOf tariff) class ⌝ }
 {
     if class == classing::MISS {
         tariff.miss
@@ -32,7 +33,7 @@ fn low_rate(class: u8, tariff: Tariff) -> u16
 
 // What the high total counts for it: the hit cost for a hit, else the miss cost.
 fn high_rate(class: u8, tariff: Tariff) -> u16
-    ensures { λ r. ⌜ r ≡ highRate (costsAlone tariff) class ⌝ }
+    ensures { λ r. ⌜ r ≡ highRate (costsOf tariff) class ⌝ }
 {
     if class == classing::HIT {
         tariff.hit
@@ -44,7 +45,7 @@ fn high_rate(class: u8, tariff: Tariff) -> u16
 // The sums with one node of this class added; a node that is not reached, and a bare step, hand them back.
 fn add_node(sums: Sums, class: u8, tariff: Tariff, floor: u16, ceiling: u16) -> Sums
     requires { ⌜ Small mostNodes sums ⌝ }
-    ensures { λ r. ⌜ r ≡ nodeAdded (costsAlone tariff) class floor ceiling sums ⌝ }
+    ensures { λ r. ⌜ r ≡ nodeAdded (costsOf tariff) class floor ceiling sums ⌝ }
 {
     if (class == classing::UNREACHED) | (class == classing::NONE) {
         return sums;
@@ -67,7 +68,7 @@ pub(crate) fn sum_nodes(
 ) -> Sums
     requires { ⌜ (nodes ≤ mostNodes) × (nodes ≤ length (now classes)) ⌝ }
     requires { ⌜ (nodes ≤ length (now floors)) × (nodes ≤ length (now ceilings)) ⌝ }
-    ensures { λ r. ⌜ r ≡ sumsTo (entryPrices (tariff .hit) (tariff .miss) floors ceilings) (now (classes .entry)) nodes ⌝ }
+    ensures { λ r. ⌜ r ≡ sumsTo (entryFigures (tariff .hit) (tariff .miss) floors ceilings) (now (classes .entry)) nodes ⌝ }
 {
     let mut sums = Sums { low: 0, high: 0 };
     for n in 0..nodes {

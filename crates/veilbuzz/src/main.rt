@@ -1,4 +1,6 @@
-// The program: a chart on standard input, its report on standard output, its ending on a descriptor of its own.
+// The program: a chart on standard input, its report on standard output, its ending on a descriptor of its own (rules 13.1 to 13.3). Every input
+// has a text and an ending; where not all of the text could be written, the ending tells so. The status itself is set by what starts the program
+// (tests/ended).
 use libc::STDIN_FILENO;
 use libc::STDOUT_FILENO;
 

@@ -41,7 +41,7 @@ impl Chart {
         self
     }
 
-    /// Document 01's sample: a step, a read that loops on itself, a read.
+    /// The sample, which is the loop of docs/RULES.md: a step, a read that loops on itself, a read.
     pub fn sample() -> Chart {
         Chart::of(vec![Record::step().to(1), Record::read(0).to(1).to(2), Record::read(0)])
     }
@@ -60,7 +60,7 @@ mod tests {
     use super::*;
 
     #[test]
-    fn the_sample_packs_to_the_bytes_of_document_01() {
+    fn the_sample_packs_to_the_bytes_of_section_14() {
         let bytes = [
             0x01, 0x40, 0x24, 0x00, 0x00, 0x30, 0x00, 0x00, //
             0x00, 0x00, 0x00, 0x00, 0x10, 0x01, 0x00, 0x00, //

@@ -17,7 +17,7 @@ pub struct Header {
 }
 
 impl Header {
-    /// 16-byte lines, one set of two ways, empty, entry 0: the header of document 01's sample, for so many nodes.
+    /// 16-byte lines, one set of two ways, empty, entry 0: the sample's header, for so many nodes.
     pub fn of(nodes: usize) -> Header {
         Header {
             edition: 1,

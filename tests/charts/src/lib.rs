@@ -1,4 +1,4 @@
-//! Charts as bytes: document 01's fields as plain numbers, allowed or not, and their packing.
+//! Charts as bytes: the fields of rules 1.2 and 2.1 as plain numbers, allowed or not, and their packing.
 //!
 //! Nothing here but the random charts knows which values are allowed, so that a test can build any damage it likes.
 

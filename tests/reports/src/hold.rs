@@ -33,7 +33,7 @@ pub fn same(printed: &str, input: &[u8]) {
     );
 }
 
-/// Holds both programs to a report that a test has from document 01 itself, its last line feed left out.
+/// Holds both programs to a report that a test has from the rules themselves, its last line feed left out.
 pub fn says(input: &[u8], text: &str) {
     assert_eq!(
         report(input),

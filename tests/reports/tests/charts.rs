@@ -1,4 +1,4 @@
-//! The charts of the folder charts/: each with its source and its report, all of them told in its README, and document 01's among them.
+//! The charts of the folder charts/: each with its source and its report, all of them told in its README, the rules' own among them.
 
 use charts::Chart;
 use reports::each::each;
@@ -6,8 +6,8 @@ use reports::folder::{chart, names, report, rows, text, words};
 use reports::hold::agrees;
 use reports::program::run;
 
-/// Document 01's charts by name.
-fn of_document_01() -> [(&'static str, Chart); 6] {
+/// The charts of the rules' examples (sections 14 and 8) by name.
+fn of_the_rules() -> [(&'static str, Chart); 6] {
     let near = || Chart::straight(&[0x00, 0x10, 0x00]);
     let far = || Chart::straight(&[0x00, 0x20, 0x00]);
     [
@@ -20,7 +20,7 @@ fn of_document_01() -> [(&'static str, Chart); 6] {
     ]
 }
 
-/// What document 01 says of them, node by node.
+/// What the examples say of them, node by node.
 const SAID: [[&str; 3]; 6] = [
     ["none", "unsure", "hit"],
     ["unsure", "unsure", "hit"],
@@ -90,8 +90,8 @@ fn there_is_a_chart_for_each_word() {
 }
 
 #[test]
-fn document_01s_charts_have_its_bytes_and_its_classes() {
-    for ((name, expected), said) in of_document_01().into_iter().zip(SAID) {
+fn the_charts_of_the_rules_have_their_bytes_and_their_classes() {
+    for ((name, expected), said) in of_the_rules().into_iter().zip(SAID) {
         let [first, second, third] = said;
         let blocks = if name == "loop" { 1 } else { 2 };
         let whole = format!("nodes 3 blocks {blocks} passes 2\n0 {first}\n1 {second}\n2 {third}\n");

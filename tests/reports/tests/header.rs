@@ -1,4 +1,4 @@
-//! Refusals 2 to 7: every header field at the ends of what document 01 allows, on both sides.
+//! Refusals 2 to 7: every header field at the ends of what rule 1.2 allows, on both sides.
 
 use charts::{Chart, Header};
 use reports::each::each;

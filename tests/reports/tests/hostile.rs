@@ -41,7 +41,7 @@ fn random_bytes_behind_a_right_header_get_the_second_programs_answer() {
 }
 
 #[test]
-fn an_input_without_an_end_gets_the_answer_for_its_first_bytes() {
+fn an_input_without_an_end_is_answered_by_its_first_bytes() {
     for begins in [Chart::steps(NODES).bytes(), Chart::sample().bytes(), Vec::new()] {
         let mut child = start(command());
         hand(&mut child, &begins);

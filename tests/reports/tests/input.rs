@@ -18,7 +18,7 @@ fn longest(size: usize) -> Vec<u8> {
 }
 
 #[test]
-fn an_input_longer_than_any_chart_gets_the_answer_for_its_first_bytes() {
+fn an_input_longer_than_any_chart_is_answered_by_its_first_bytes() {
     each(
         &[
             INPUT,

@@ -1,4 +1,4 @@
-//! Several faults at once: the first of document 01's list is the answer.
+//! Several faults at once: the refusal with the smallest number is the answer (rule 11.0).
 
 use charts::{Chart, Record};
 use reports::each::each;

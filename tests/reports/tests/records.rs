@@ -123,7 +123,7 @@ fn an_arrow_that_is_not_used_is_0() {
 }
 
 #[test]
-fn two_arrows_may_lead_to_one_node() {
+fn both_arrows_may_have_one_target() {
     for target in 0..NODES as u64 {
         keeps(Record::step().to(target).to(target));
     }

@@ -1,4 +1,4 @@
-//! Document 01's chart and its report, whole and letter for letter.
+//! The loop of docs/RULES.md and its report (section 14 there), whole and letter for letter.
 
 use reports::program::run;
 
@@ -15,7 +15,7 @@ const REPORT: &str = "nodes 3 blocks 1 passes 2\n\
                       2 hit\n";
 
 #[test]
-fn the_program_prints_the_report_of_document_01() {
+fn the_program_prints_the_report_of_section_14() {
     assert_eq!(run(&CHART), REPORT);
 }
 

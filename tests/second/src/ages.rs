@@ -1,6 +1,6 @@
 //! What one reference does to a row of ages, a column for each block of the chart.
 
-/// A reference to block `m`, of must age h: another block of its set below h grows by one.
+/// A touch of block `m`, whose must age is h: the younger ones of its set, under h, become older by one (rule 6.3).
 pub fn touch_must(row: &mut [u8], sets: &[u8], m: usize) {
     let (h, set) = (row[m], sets[m]);
     for (age, &other) in row.iter_mut().zip(sets) {
@@ -9,7 +9,7 @@ pub fn touch_must(row: &mut [u8], sets: &[u8], m: usize) {
     row[m] = 0;
 }
 
-/// A reference to block `m`, of may age h: another block of its set at or below h grows by one, never past the ways.
+/// A touch of block `m`, whose may age is h: those of its set that are h or under become older by one, up to the ways (rule 6.4).
 pub fn touch_may(row: &mut [u8], sets: &[u8], ways: u8, m: usize) {
     let (h, set) = (row[m], sets[m]);
     for (age, &other) in row.iter_mut().zip(sets) {

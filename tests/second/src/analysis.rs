@@ -26,7 +26,7 @@ pub enum Analysed {
         allowance: usize,
         blocks: usize,
     },
-    /// Refusals 1 to 11: nothing lent has changed.
+    /// Refusals 1 to 11: everything lent is as it was.
     Refused(Refusal),
 }
 

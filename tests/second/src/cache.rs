@@ -57,7 +57,7 @@ pub struct Costs {
     pub miss: u16,
 }
 
-/// Whether these nodes are a walk: at least one, the first is the entry, and each next is an arrow of the one before.
+/// Whether these nodes are a walk (rule 5.1): the first, which there is, is the entry, and an arrow leads from each to the next.
 pub fn is_walk(chart: &Chart, nodes: &[usize]) -> bool {
     nodes.first() == Some(&chart.header.entry)
         && nodes

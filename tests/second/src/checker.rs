@@ -49,7 +49,7 @@ fn covers(chart: &Chart, lent: Lent) -> bool {
         })
 }
 
-/// Whether a node is marked, with must ages no less and may ages no more than the state's.
+/// Whether a node is marked, none of its must ages below the state's and none of its may ages above (rules 7.5 and 7.6).
 fn holds(chart: &Chart, lent: Lent, node: usize, state: &State) -> bool {
     let (must, may) = lent.rows(chart, node);
     lent.marked(node)

@@ -1,7 +1,7 @@
 use crate::chart::Chart;
 use crate::lent::Lent;
 
-/// What is known of a node's reference. The numbers are document 01's.
+/// What is known of a node's reference. The numbers are those of rule 8.1.
 #[derive(Clone, Copy, Debug, PartialEq, Eq)]
 pub enum Class {
     Unreached = 0,

@@ -1,4 +1,4 @@
-/// The fields of a header or a record: 64 bits, packed without gaps, most significant first.
+/// The fields of a header or a record: 64 bits, one field against the next, each with its most significant bit in front (rule 1.1).
 pub struct Fields(u64);
 
 impl Fields {

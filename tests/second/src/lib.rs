@@ -1,5 +1,5 @@
-//! The second program: document 01 in ordinary Rust, written from that paper alone and from nothing of the proved sources, so that
-//! the two seldom share a mistake. The tests hold the proved program to it, and the measurement times the proved analysis against it.
+//! The second program: the tool in ordinary Rust, written apart from the proofs, from the rules (docs/RULES.md) alone, so that the two
+//! seldom share a mistake. The tests hold the proved program to it, and the measurement times the proved analysis against it.
 
 pub mod ages;
 pub mod analysis;

@@ -1,4 +1,4 @@
-//! Document 01's limits, and what follows from them. All that is no part of the proof takes them from here.
+//! The limits of rule 1.4, and what follows from them. All that is no part of the proof takes them from here.
 
 /// The most nodes of a chart.
 pub const NODES: usize = 256;

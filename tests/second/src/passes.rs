@@ -20,8 +20,8 @@ fn pass(chart: &Chart, table: &mut Table, after: &mut State) -> bool {
     changed
 }
 
-/// Settles a table, cleared or with what more it has to cover. The number of passes made, the one that changed nothing included, unless
-/// the allowance ends before it.
+/// Settles a table, cleared or with what more it has to cover. How many passes that took, with the one that changed nothing, unless the
+/// allowance ends before it.
 pub fn settle(chart: &Chart, table: &mut Table, allowance: usize) -> Option<usize> {
     let mut state = State::start(chart);
     table.meet(chart.header.entry, &state);

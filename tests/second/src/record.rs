@@ -5,7 +5,7 @@ use crate::fields::Fields;
 /// A record that keeps its rules.
 #[derive(Clone, Copy, Debug, PartialEq, Eq)]
 pub struct Record {
-    /// The address of a reference. A write is treated as a read; a bare step has none.
+    /// The address of a reference, be it read or written (rule 2.8); a bare step has none.
     pub address: Option<u32>,
     pub arrows: Arrows,
 }

@@ -1,6 +1,6 @@
 use std::fmt;
 
-/// A row of document 01's table "When the tool says no": its number, and the place that it names.
+/// One of rules 11.1 to 11.17: its number, and the place that it names.
 #[derive(Clone, Copy, Debug, PartialEq, Eq)]
 pub struct Refusal {
     pub number: usize,

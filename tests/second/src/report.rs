@@ -7,7 +7,7 @@ use crate::limits::{LONGEST, PASSES};
 use crate::refusal::Refusal;
 use std::fmt::Write;
 
-/// The longest chart and one byte more: a longer input gets the answer for these.
+/// The longest chart and one byte more: what is behind them is not looked at (rule 13.1).
 pub const INPUT: usize = LONGEST + 1;
 
 /// The word of each class by its number.

@@ -3,7 +3,7 @@ use crate::lent::Lent;
 use crate::state::State;
 use std::ops::Range;
 
-/// A table over lent buffers of just its size: a mark for each node, and two ages for each node and block, row after row.
+/// A table (rule 7.1) over lent buffers of just its size: the marks, and both kinds of ages, a node's row after another's.
 pub struct Table<'a> {
     pub blocks: usize,
     pub must: &'a mut [u8],
@@ -36,7 +36,7 @@ impl Table<'_> {
         self.marks.fill(0);
     }
 
-    /// Meets a state into a node. An unmarked one takes it as it is and is marked. Whether anything changed.
+    /// Meets a state into a node; one without a mark gets the mark and the state (rule 9.4). Whether anything changed.
     pub fn meet(&mut self, node: usize, state: &State) -> bool {
         let row = self.row(node);
         let (must, may) = (&mut self.must[row.clone()], &mut self.may[row]);

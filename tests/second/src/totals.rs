@@ -7,7 +7,7 @@ use crate::class::Class;
 use crate::lent::Lent;
 use crate::refusal::Refusal;
 
-/// A floor and a ceiling for each node: how often a walk visits it, at least and at most.
+/// How often a walk visits each node, at least and at most (rule 10.1).
 #[derive(Clone, Copy)]
 pub struct Bounds<'a> {
     pub floors: &'a [u16],

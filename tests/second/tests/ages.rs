@@ -1,4 +1,4 @@
-//! Document 01's soundings of one row: four ways, one set, blocks a b c d e.
+//! One touch and one meeting (rules 6.3, 6.4 and 6.6), on the example of section 6: four ways, and the blocks a to e of one set.
 
 use second::ages::{meet_may, meet_must, touch_may, touch_must};
 

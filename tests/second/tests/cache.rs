@@ -1,4 +1,4 @@
-//! The plain cache and the plain machine, by hand from document 01's words.
+//! The plain cache and the plain machine, by hand from sections 4 and 5 of the rules.
 
 use charts::{Chart, Record};
 use second::cache::{cost, is_walk, Cache, Costs};
@@ -12,7 +12,7 @@ fn empty(sets: u32, ways: u8) -> Cache {
     Cache::empty(Geometry { line: 4, sets, ways })
 }
 
-/// Document 01's sample, read.
+/// The sample, read.
 fn sample() -> chart::Chart {
     chart::Chart::read(&Chart::sample().bytes()).expect("the sample is accepted")
 }
@@ -23,7 +23,7 @@ fn cost_of(nodes: &[usize]) -> Option<u64> {
 }
 
 #[test]
-fn a_touched_block_is_first_and_the_others_keep_their_order() {
+fn a_touched_block_is_first_and_the_others_follow_as_before() {
     let mut cache = empty(0, 4);
     for block in [1, 2, 3, 4] {
         assert!(!cache.touch(block));

@@ -1,4 +1,4 @@
-//! Document 01's soundings of straight charts: three reads, 16-byte lines, entry 0, an arrow from each to the next.
+//! Rule 8.1 on the examples of section 8: three reads in a row, with 16-byte lines.
 
 use charts::Chart;
 use second::lending::Lending;

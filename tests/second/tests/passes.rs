@@ -1,4 +1,4 @@
-//! The number of passes, by hand from document 01's words.
+//! The number of passes, by hand from rules 9.1 to 9.6.
 
 use charts::{Chart, Record};
 use second::analysis::Analysed;
@@ -14,7 +14,7 @@ fn passes(chart: &Chart) -> usize {
 }
 
 #[test]
-fn what_follows_from_the_limits_is_what_document_01_names() {
+fn what_follows_from_the_limits_is_what_the_rules_name() {
     assert_eq!((LONGEST, PASSES), (2_056, 262_401));
 }
 

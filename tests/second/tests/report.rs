@@ -1,11 +1,11 @@
-//! Document 01's chart and its report, whole, and its soundings of what is refused.
+//! The sample and its report, whole, and charts on both sides of what is refused.
 
 use charts::{Chart, Record};
 use second::limits::{BLOCKS, NODES};
 use second::report::report;
 
 #[test]
-fn the_sample_has_the_report_of_document_01() {
+fn the_sample_has_the_report_of_section_14() {
     let sample = [
         0x01, 0x40, 0x24, 0x00, 0x00, 0x30, 0x00, 0x00, //
         0x00, 0x00, 0x00, 0x00, 0x10, 0x01, 0x00, 0x00, //
@@ -16,7 +16,7 @@ fn the_sample_has_the_report_of_document_01() {
 }
 
 #[test]
-fn the_other_words_are_miss_and_unreached() {
+fn a_read_from_empty_is_a_miss_and_a_node_behind_it_unreached() {
     let chart = Chart::of(vec![Record::read(0), Record::step()]);
     assert_eq!(
         report(&chart.bytes()),

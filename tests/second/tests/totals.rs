@@ -1,4 +1,4 @@
-//! The totals: document 01's soundings, what each class adds, and the largest sum.
+//! The totals: the example of section 10 of the rules, what each class adds, and the largest sum.
 
 use charts::{Chart, Record};
 use second::analysis::Analysed;
@@ -24,7 +24,7 @@ fn totals(chart: &[u8], table: &Lending, costs: Costs, floors: &[u16], ceilings:
     (low, high)
 }
 
-/// The totals of the sample after a change of its table, with the sounding's costs, floors and ceilings.
+/// The totals of the sample after a change of its table, with that example's costs, floors and ceilings.
 fn sounded(change: impl Fn(&mut Lending)) -> (u64, u64) {
     let chart = Chart::sample().bytes();
     let mut table = settled(&chart);

@@ -100,7 +100,7 @@ fn a_floor_one_above_its_ceiling_is_refusal_16_at_the_first_such_node() {
 }
 
 #[test]
-fn a_floor_above_0_at_an_unmarked_node_is_refusal_17_at_the_first_such_node() {
+fn a_floor_above_0_without_a_mark_is_refusal_17_at_the_first_such_node() {
     for (floors, place) in [
         ([1, 1, 1, 1, 0, 0], 3),
         ([1, 1, 1, 1, 1, 1], 3),
@@ -125,7 +125,7 @@ fn a_floor_above_its_ceiling_goes_before_an_earlier_unmarked_node() {
 }
 
 #[test]
-fn a_ceiling_above_0_at_an_unmarked_node_is_no_fault_and_adds_nothing() {
+fn a_ceiling_above_0_without_a_mark_is_no_fault_and_adds_nothing() {
     for ceiling in [0, 1, 65_535] {
         assert_eq!(bounded([1, 1, 1, 0, 0, 0], [1, 10, 1, ceiling, ceiling, ceiling]), SAME);
     }

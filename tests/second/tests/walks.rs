@@ -1,4 +1,4 @@
-//! The ages hold what walks do: along random walks on document 01's plain cache each block's age lies between its may and its must age,
+//! The ages hold what walks do: along random walks on the plain cache each block's age lies between its may and its must age,
 //! what is called a hit hits and what is called a miss misses, under the analysis's own table and under looser ones that pass.
 
 mod walking;

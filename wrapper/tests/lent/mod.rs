@@ -10,7 +10,7 @@ pub const NODES: usize = 4;
 pub const BLOCKS: usize = 3;
 pub const AGES: usize = NODES * BLOCKS;
 
-/// Document 01's straight chart of reads 0x00, 0x10, 0x00 in one set of two ways, unknown, and a read of 0x20 that no walk reaches.
+/// Reads of 0x00, 0x10 and 0x00 in a row in one set of two ways, unknown (section 8 of the rules), and a read of 0x20 that no walk reaches.
 pub fn chart() -> Vec<u8> {
     let mut chart = Chart::straight(&[0x00, 0x10, 0x00]).shaped(0, 2, 0);
     chart.records.push(Record::read(0x20));

@@ -3,7 +3,8 @@ use mathlib.Core.Path.{_≡_, refl}
 use Prim.Native.Nat.{_+_, _-_, _≤_, _<_}
 use native.Mathlib.Omega.{arith}
 use lib.ListN.{length}
-use Rattle.blocks.proofs.Shift.{shifted, carriedAt, shift-begins, shift-stores, shift-carries}
+use Rattle.blocks.specs.Listing.{shifted, carriedAt}
+use Rattle.blocks.proofs.Shift.{shift-begins, shift-stores, shift-carries}
 use Rattle.blocks.proofs.shift_in.Statement.{statement}
 use Rattle.blocks.proofs.shift_in.Tie as tie
 

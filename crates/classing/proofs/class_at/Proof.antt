@@ -5,7 +5,7 @@ use mathlib.Core.Path.{_≡_, ap, sym, _∙_}
 use denote.Ref.{now}
 use Rattle.lists.proofs.Joined.{row-in}
 use Rattle.plan.specs.declared.PlannedNode.{PlannedNode}
-use Rattle.plan.specs.declared.Work.the-variants.{Reference}
+use Rattle.plan.specs.declared.PlannedRecord.the-variants.{Reference}
 use Rattle.plan.specs.Listed.{nodesIn, blocksIn, nodeIn}
 use Rattle.tables.specs.Contract.{lentTable}
 use Rattle.classing.proofs.Reading.{unmarked-class, step-class, reference-in, reference-class}
@@ -13,16 +13,16 @@ use Rattle.classing.proofs.class_at.Statement.{statement}
 use Rattle.classing.proofs.class_at.Tie as tie
 
 -- What the node does, once it is known to be a reference.
-does : (c : tie.After-blocks-in) → nodeIn (now (c .before .before .before .before .before .before .before .before .before .before .before .before .args .plan)) (c .before .before .before .before .before .before .before .before .before .before .before .before .args .n) .work ≡ Reference (c .before .before .work .given .0 .0)
-does c = ap (λ (node : PlannedNode). node .work) (sym (c .before .before .before .before .node-in .ensures)) ∙ c .before .before .work .given .1
+does : (c : tie.After-blocks-in) → nodeIn (now (c .before .before .before .before .before .before .before .before .before .before .before .before .args .plan)) (c .before .before .before .before .before .before .before .before .before .before .before .before .args .n) .what ≡ Reference (c .before .before .planned .given .0 .0)
+does c = ap (λ (node : PlannedNode). node .what) (sym (c .before .before .before .before .node-in .ensures)) ∙ c .before .before .planned .given .1
 
 -- Its column, and the place of its ages.
-column-in : (c : tie.After-blocks-in) → c .before .before .work .given .0 .0 .column < blocksIn (now (c .before .before .before .before .before .before .before .before .before .before .before .before .args .plan))
+column-in : (c : tie.After-blocks-in) → c .before .before .planned .given .0 .0 .column < blocksIn (now (c .before .before .before .before .before .before .before .before .before .before .before .before .args .plan))
 column-in c =
     let s = c .before .before .before .before .before .before .before .before .before .before .before .before in
-    reference-in (now (s .args .columns)) (now (s .args .plan)) (s .pre .0) (s .args .n) (s .pre .1 .1) (c .before .before .work .given .0 .0) (does c)
+    reference-in (now (s .args .columns)) (now (s .args .plan)) (s .pre .0) (s .args .n) (s .pre .1 .1) (c .before .before .planned .given .0 .0) (does c)
 
-place-in : (c : tie.After-blocks-in) → c .before .before .before .before .before .before .before .before .before .before .before .before .args .n * c .blocks-in .result + c .before .before .work .given .0 .0 .column < nodesIn (now (c .before .before .before .before .before .before .before .before .before .before .before .before .args .plan)) * blocksIn (now (c .before .before .before .before .before .before .before .before .before .before .before .before .args .plan))
+place-in : (c : tie.After-blocks-in) → c .before .before .before .before .before .before .before .before .before .before .before .before .args .n * c .blocks-in .result + c .before .before .planned .given .0 .0 .column < nodesIn (now (c .before .before .before .before .before .before .before .before .before .before .before .before .args .plan)) * blocksIn (now (c .before .before .before .before .before .before .before .before .before .before .before .before .args .plan))
 place-in c =
     let s = c .before .before .before .before .before .before .before .before .before .before .before .before in
     rw (c .blocks-in .ensures) (omega (arith, column-in c, row-in (s .args .n) (nodesIn (now (s .args .plan))) (blocksIn (now (s .args .plan))) (s .pre .1 .1)))
@@ -38,8 +38,8 @@ returns c =
 node-in-requires : tie.Need-node-in-requires
 node-in-requires c κs = search needs
 
-enum-known-work : tie.Need-enum-known-work
-enum-known-work c = search needs
+enum-known-planned : tie.Need-enum-known-planned
+enum-known-planned c = search needs
 
 enum-told : tie.Need-enum-told
 enum-told c = search needs
@@ -48,7 +48,7 @@ returns-2 : tie.Need-returns-2
 returns-2 c =
     let s = c .before .before .before .before .before .before .before .before .before .before in
     step-class (now (s .args .columns)) (now (s .args .plan)) (lentTable (s .args .must) (s .args .may) (s .args .marks)) (s .args .n) (s .pre .1 .1) (c .before .before .before .if1 .left)
-    (ap (λ (node : PlannedNode). node .work) (sym (c .before .before .node-in .ensures)) ∙ c .enum-told .given .1)
+    (ap (λ (node : PlannedNode). node .what) (sym (c .before .before .node-in .ensures)) ∙ c .enum-told .given .1)
 
 blocks-in-requires : tie.Need-blocks-in-requires
 blocks-in-requires c κs = search needs
@@ -77,7 +77,7 @@ class-of-requires c κs = search needs
 returns-3 : tie.Need-returns-3
 returns-3 c =
     let s = c .before .before .before .before .before .before .before .before .before .before .before .before .before .before .before .before in
-    let touch = c .before .before .before .before .before .before .work .given .0 .0 in
+    let touch = c .before .before .before .before .before .before .planned .given .0 .0 in
     (rw (c .before .before .before .before .blocks-in .ensures) at (c .class-of .ensures))
     ∙ reference-class (now (s .args .columns)) (now (s .args .plan)) (lentTable (s .args .must) (s .args .may) (s .args .marks)) (s .args .n) (s .pre .1 .1) (c .before .before .before .before .before .before .before .before .before .if1 .left) (s .pre .0) touch (does (c .before .before .before .before))
 
@@ -88,7 +88,7 @@ class-at-spec =
     shared-slice-read-if1
     returns
     node-in-requires
-    enum-known-work
+    enum-known-planned
     enum-told
     returns-2
     blocks-in-requires

@@ -1,7 +1,7 @@
 use borrow.Author.Needs.{needs}
 use Prim.Native.Nat.{_/_, _%_}
 use mathlib.Core.Path.{_≡_, _∙_}
-use Rattle.plan.specs.Listed.{workOf, nodeFrom}
+use Rattle.plan.specs.Listed.{plannedOf, nodeFrom}
 use Rattle.plan.proofs.node_in.Statement.{statement}
 use Rattle.plan.proofs.node_in.Tie as tie
 
@@ -20,8 +20,8 @@ shared-slice-read-wide c = search needs
 wide-requires : tie.Need-wide-requires
 wide-requires c κs = search needs
 
-work-of-requires : tie.Need-work-of-requires
-work-of-requires c κs = search needs
+planned-of-requires : tie.Need-planned-of-requires
+planned-of-requires c κs = search needs
 
 add-wide : tie.Need-add-wide
 add-wide c = search needs
@@ -50,8 +50,8 @@ wide-requires-3 c κs = search needs
 returns : tie.Need-returns
 returns c =
     let deed = c .before .before .before .before .before .wide in
-    let work : c .before .before .before .before .work-of .result ≡ workOf (deed .result % 4) (deed .result / 16) = c .before .before .before .before .work-of .ensures in
-    (λ i. record { work = work i; targets = record { outs = deed .result / 4 % 4; first = c .before .before .wide2 .result; second = c .wide3 .result } })
+    let planned : c .before .before .before .before .planned-of .result ≡ plannedOf (deed .result % 4) (deed .result / 16) = c .before .before .before .before .planned-of .ensures in
+    (λ i. record { what = planned i; targets = record { outs = deed .result / 4 % 4; first = c .before .before .wide2 .result; second = c .wide3 .result } })
     ∙ (λ i. nodeFrom (deed .ensures i) (c .before .before .wide2 .ensures i) (c .wide3 .ensures i))
 
 pub node-in-spec : {M : Type 1} → statement M
@@ -63,7 +63,7 @@ node-in-spec =
     mul-wide
     shared-slice-read-wide
     wide-requires
-    work-of-requires
+    planned-of-requires
     add-wide
     mul-wide-2
     shared-slice-read-wide-2

@@ -6,7 +6,8 @@ use native.Mathlib.Omega.{arith}
 use lib.ListN.{length}
 use Rattle.lists.proofs.Loops.{patch-turn0}
 use Rattle.chart.specs.Geometry.{mostBlocks}
-use Rattle.tables.proofs.Loading.{loadedTo, loaded-whole}
+use Rattle.tables.specs.Inner.{loadedTo}
+use Rattle.tables.proofs.Loading.{loaded-whole}
 use Rattle.tables.proofs.load.Statement.{statement}
 use Rattle.tables.proofs.load.Tie as tie
 

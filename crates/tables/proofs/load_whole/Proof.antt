@@ -4,7 +4,8 @@ use Prim.Native.Nat.{_≤_, _-_}
 use native.Mathlib.Omega.{arith}
 use Rattle.lists.proofs.Loops.{patch-turn0}
 use Rattle.chart.specs.Geometry.{mostBlocks}
-use Rattle.tables.proofs.Loading.{loadedTo, loaded-whole}
+use Rattle.tables.specs.Inner.{loadedTo}
+use Rattle.tables.proofs.Loading.{loaded-whole}
 use Rattle.tables.proofs.load_whole.Statement.{statement}
 use Rattle.tables.proofs.load_whole.Tie as tie
 

@@ -47,7 +47,7 @@ same-length-5 c = search needs
 returns-2 : tie.Need-returns-2
 unfolding joinedInto
 returns-2 c =
-    rw (ne-eqb _ 0 (c .before .before .before .before .before .before .before .before .if1 .left), c .before .before .before .before .before .before .put-larger .ensures .row, c .before .before .put-smaller .ensures .row, c .before .before .put-smaller .ensures .moved, c .before .before .before .before .before .before .put-larger .ensures .moved)
+    rw (ne-eqb _ 0 (c .before .before .before .before .before .before .before .before .if1 .left), c .before .before .before .before .before .before .put-larger .ensures .row, c .before .before .put-smaller .ensures .row, c .before .before .put-smaller .ensures .flag-is, c .before .before .before .before .before .before .put-larger .ensures .flag-is)
 
 pub meet-row-spec : {M : Type 1} → statement M
 meet-row-spec =

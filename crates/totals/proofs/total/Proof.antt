@@ -2,20 +2,20 @@ use borrow.Author.Needs.{needs}
 use mathlib.Core.Path.{sym, _∙_}
 use denote.Ref.{now}
 use Rattle.chart.proofs.Answers.{reader-accepts, reader-refuses}
-use Rattle.costs.specs.Costs.{Prices}
+use Rattle.costs.specs.Costs.{Figures}
 use Rattle.tables.specs.Lent.{Lent}
 use Rattle.refusals.proofs.Saying.{says-too}
 use Rattle.totals.specs.Totals.{totals, totalsSay}
-use Rattle.totals.proofs.Totalled.{short-totals, fails-totals, passes-totals, passing-roomy}
+use Rattle.totals.proofs.Totalled.{short-totals, no-totals, yes-totals, passing-roomy}
 use Rattle.totals.proofs.total.Statement.{statement}
 use Rattle.totals.proofs.total.Tie as tie
 
--- The table and the prices that were lent.
+-- The table and the figures that were lent.
 abbrev lent : tie.Start → Lent
 lent s = record { must = now (s .args .must); may = now (s .args .may); marks = now (s .args .marks) }
 
-abbrev prices : tie.Start → Prices
-prices s = record { hitCost = s .args .hit; missCost = s .args .miss; floors = now (s .args .floors); ceilings = now (s .args .ceilings) }
+abbrev figures : tie.Start → Figures
+figures s = record { costs = record { hit = s .args .hit; miss = s .args .miss }; floors = now (s .args .floors); ceilings = now (s .args .ceilings) }
 
 slice-aggregate-draw : tie.Need-slice-aggregate-draw
 slice-aggregate-draw c = search needs
@@ -72,19 +72,19 @@ total-drawn-requires c κs =
 returns-2 : tie.Need-returns-2
 returns-2 c =
     let s = c .before .before .before .before .before .before .before .before .before .before .before .before .before .before .before .before .before .before .before in
-    says-too totalsSay (short-totals (c .before .before .before .before .before .before .before .before .before .before .draw .ensures .1) (reader-accepts _ (c .before .before .before .before .before .before .before .before .before .before .draw .result) (c .before .before .before .before .before .before .before .before .before .before .draw .ensures .0) _ _ (c .before .before .before .before .before .before .enum-told .given .1) .read) (lent s) (prices s) _ (sym (c .before .answer .given .1) ∙ c .before .before .before .check-drawn .ensures))
+    says-too totalsSay (short-totals (c .before .before .before .before .before .before .before .before .before .before .draw .ensures .1) (reader-accepts _ (c .before .before .before .before .before .before .before .before .before .before .draw .result) (c .before .before .before .before .before .before .before .before .before .before .draw .ensures .0) _ _ (c .before .before .before .before .before .before .enum-told .given .1) .read) (lent s) (figures s) _ (sym (c .before .answer .given .1) ∙ c .before .before .before .check-drawn .ensures))
 
 returns-3 : tie.Need-returns-3
 returns-3 c =
     let s = c .before .before .before .before .before .before .before .before .before .before .before .before .before .before .before .before .before .before in
-    says-too totalsSay (fails-totals (c .before .before .before .before .before .before .before .before .before .draw .ensures .1) (reader-accepts _ (c .before .before .before .before .before .before .before .before .before .draw .result) (c .before .before .before .before .before .before .before .before .before .draw .ensures .0) _ _ (c .before .before .before .before .before .enum-told .given .1) .read) (lent s) (prices s) (sym (c .enum-told2 .given .1) ∙ c .before .before .check-drawn .ensures))
+    says-too totalsSay (no-totals (c .before .before .before .before .before .before .before .before .before .draw .ensures .1) (reader-accepts _ (c .before .before .before .before .before .before .before .before .before .draw .result) (c .before .before .before .before .before .before .before .before .before .draw .ensures .0) _ _ (c .before .before .before .before .before .enum-told .given .1) .read) (lent s) (figures s) (sym (c .enum-told2 .given .1) ∙ c .before .before .check-drawn .ensures))
 
 returns-4 : tie.Need-returns-4
 returns-4 c =
     let s = c .before .before .before .before .before .before .before .before .before .before .before .before .before .before .before .before .before .before .before .before .before in
     says-too totalsSay
     (c .total-drawn .ensures
-    ∙ passes-totals (c .before .before .before .before .before .before .before .before .before .before .before .before .draw .ensures .1) (reader-accepts _ (c .before .before .before .before .before .before .before .before .before .before .before .before .draw .result) (c .before .before .before .before .before .before .before .before .before .before .before .before .draw .ensures .0) _ _ (c .before .before .before .before .before .before .before .before .enum-told .given .1) .read) (lent s) (prices s) (sym (c .before .before .before .enum-told3 .given .1) ∙ c .before .before .before .before .before .check-drawn .ensures))
+    ∙ yes-totals (c .before .before .before .before .before .before .before .before .before .before .before .before .draw .ensures .1) (reader-accepts _ (c .before .before .before .before .before .before .before .before .before .before .before .before .draw .result) (c .before .before .before .before .before .before .before .before .before .before .before .before .draw .ensures .0) _ _ (c .before .before .before .before .before .before .before .before .enum-told .given .1) .read) (lent s) (figures s) (sym (c .before .before .before .enum-told3 .given .1) ∙ c .before .before .before .before .before .check-drawn .ensures))
 
 pub total-spec : {M : Type 1} → statement M
 total-spec =

@@ -10,8 +10,8 @@ use veilbuzz::Analysis;
 /// How verdicts are counted.
 const YES: &str = "the table passes";
 
-/// Whether a table says no more than the tightest does: it marks at least the same nodes, and at these has must ages no less and may ages
-/// no more.
+/// Whether a table says no more than the tightest does (rule 7.8): it marks every node that that one marks, and there none of its must
+/// ages is below that one's and none of its may ages above.
 fn no_tighter(table: &Table, tightest: veilbuzz::Table, blocks: usize) -> bool {
     let mut marked = (0..tightest.marks.len()).filter(|&node| tightest.marks[node] == 1);
     marked.all(|node| {

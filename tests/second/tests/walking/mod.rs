@@ -52,8 +52,8 @@ pub fn walk(random: &mut Random, chart: &Chart) -> Vec<usize> {
     nodes
 }
 
-/// A passing table with must ages no less and may ages no more than this one's, at its nodes and perhaps at more, and its classes. Some
-/// ages are drawn looser and some nodes marked; then passes carry that along the arrows, until the table passes again.
+/// A passing table that says no more than this one (rule 7.8), perhaps of more nodes, and its classes. Some ages are drawn looser and
+/// some nodes marked; then passes carry that along the arrows, until the table passes again.
 pub fn looser(random: &mut Random, bytes: &[u8], chart: &Chart, tighter: &Lending) -> Lending {
     let (nodes, blocks) = (chart.nodes.len(), chart.blocks.len());
     let mut lending = tighter.clone();

@@ -3,7 +3,7 @@ use native.Mathlib.Omega.{arith}
 use denote.Ref.{now}
 use Rattle.analysis.specs.Inner.{sized}
 use Rattle.analysis.proofs.Room.{used-is}
-use Rattle.analysis.proofs.Starting.{cleared}
+use Rattle.analysis.proofs.Starting.{cleared-blank}
 use Rattle.analysis.proofs.buffers.clear.Statement.{statement}
 use Rattle.analysis.proofs.buffers.clear.Tie as tie
 
@@ -45,7 +45,7 @@ returns c =
     let s = c .before .before .before .before .before .before .before .before .before .before .before .before .before .before .before .before .before .before in
     let a = s .args in
     rw (c .before .before .before .before .before .before .before .before .before .before .fill .ensures, c .before .before .before .before .before .before .fill2 .ensures, c .before .before .fill3 .ensures, c .before .before .before .before .before .before .before .before .before .before .before .before .before .nodes-in .ensures, c .before .before .before .before .before .before .before .before .before .before .before .before .blocks-in .ensures)
-    (cleared (sized (now (a .plan))) (record { must = now (a .must); may = now (a .may); marks = now (a .marks) }) (s .pre .1))
+    (cleared-blank (sized (now (a .plan))) (record { must = now (a .must); may = now (a .may); marks = now (a .marks) }) (s .pre .1))
 
 pub clear-spec : {M : Type 1} → statement M
 clear-spec =

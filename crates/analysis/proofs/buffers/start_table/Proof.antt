@@ -8,7 +8,7 @@ use Rattle.lists.proofs.Joined.{row-in}
 use Rattle.chart.specs.Geometry.{mostBlocks}
 use Rattle.plan.specs.Listed.{nodesIn, blocksIn, entryIn}
 use Rattle.analysis.proofs.Room.{used-is}
-use Rattle.analysis.proofs.Starting.{started}
+use Rattle.analysis.proofs.Starting.{start-before}
 use Rattle.analysis.proofs.buffers.start_table.Statement.{statement}
 use Rattle.analysis.proofs.buffers.start_table.Tie as tie
 
@@ -46,15 +46,15 @@ meet-row-requires c κs =
     let roomy = s .pre .1 in
     let entry = c .before .before .before .before .before .before .before .before .before .before .before .before .before .before .before .before .before .before .before .entry-in in
     let blocks = c .before .before .before .before .before .before .before .before .before .before .before .before .before .before .before .before .before .before .before .before .blocks-in in
-    let kept = c .before .before .before .before .before .before .before .before .before .before .before .clear .kept in
+    let lengths = c .before .before .before .before .before .before .before .before .before .before .before .clear .kept in
     let room = row-in (entryIn (now (s .args .plan))) (nodesIn (now (s .args .plan))) (blocksIn (now (s .args .plan))) (drawn .sound .entry-in) in
     let base = used-is (entry .ensures) (blocks .ensures) in
     let few : blocks .result ≤ mostBlocks = omega (arith, drawn .few-blocks, blocks .ensures) in (
       (
         omega (arith, few, must-long (c .before .before .before .before .before .before .before .before .before .before .before .before .before .before .before .before .before)),
-        (omega (arith, few, may-long (c .before .before .before .before .before .before .before .before .before .before .before .before .before .before .before .before .before)), omega (arith, drawn .sound .entry-in, roomy .marks-room, kept)),
+        (omega (arith, few, may-long (c .before .before .before .before .before .before .before .before .before .before .before .before .before .before .before .before .before)), omega (arith, drawn .sound .entry-in, roomy .marks-room, lengths)),
       ),
-      (omega (arith, room, base, blocks .ensures, roomy .must-room, kept), omega (arith, room, base, blocks .ensures, roomy .may-room, kept)),
+      (omega (arith, room, base, blocks .ensures, roomy .must-room, lengths), omega (arith, room, base, blocks .ensures, roomy .may-room, lengths)),
     )
 
 same-length : tie.Need-same-length
@@ -73,7 +73,7 @@ returns c =
     let entry = c .before .before .before .before .before .before .before .before .before .before .before .before .before .before .before .before .before .before .before .before .before .before .before .before .before .before .entry-in in
     let blocks = c .before .before .before .before .before .before .before .before .before .before .before .before .before .before .before .before .before .before .before .before .before .before .before .before .before .before .before .blocks-in in
     let empty = c .before .before .before .before .before .before .before .before .before .before .before .before .before .before .before .before .before .before .before .before .before .before .before .before .before .empty-in in
-    started (now (s .args .columns)) (now (s .args .plan)) (s .pre .0)
+    start-before (now (s .args .columns)) (now (s .args .plan)) (s .pre .0)
     (record { must = now (s .args .must); may = now (s .args .may); marks = now (s .args .marks) })
     (blocks .result) (entry .result) (blocks .ensures) (entry .ensures) (empty .result) (empty .ensures) (start .result) (start .ensures)
     _ (c .before .before .before .before .before .before .before .before .before .before .before .before .before .before .before .before .before .before .clear .ensures) _ (c .before .before .before .before .before .before .meet-row .ensures)

@@ -6,7 +6,7 @@ use denote.Ref.{now}
 use Rattle.chart.proofs.Answers.{reader-accepts, reader-refuses, found-array}
 use Rattle.refusals.proofs.Saying.{says-too}
 use Rattle.analysis.specs.Analysis.{Buffers, analysed, Left, AnalysedSaid, analysedSays}
-use Rattle.analysis.proofs.Answering.{held-drawn, short-refused, list-room, plan-room, classes-room, answered}
+use Rattle.analysis.proofs.Answering.{held-drawn, short-refused, list-room, plan-room, classes-room, finishes-analysed}
 use Rattle.analysis.proofs.settled.analyse.Statement.{statement}
 use Rattle.analysis.proofs.settled.analyse.Tie as tie
 
@@ -125,7 +125,7 @@ returns-2 c =
     let found = reader-accepts (bytes s) (draw .result) (draw .ensures .0) _ _ (c .before .before .before .before .before .before .before .before .before .before .before .before .before .before .before .before .before .before .before .before .before .before .before .before .before .before .before .before .before .before .before .verdict .given .1) in
     let short = c .before .before .before .before .before .before .before .before .before .before .before .before .before .before .before .before .before .before .before .before .before .before .before .short-for in
     says-too leftSays
-    (answered (bytes s) _ _ (draw .ensures .1) _ _ _ found (s .args .allowance) (buffers s) (short .result) (short .ensures) (c .before .before .before .before .before .before .before .before .before .before .before .before .before .before .before .before .before .before .before .before .before .before .if1 .left)
+    (finishes-analysed (bytes s) _ _ (draw .ensures .1) _ _ _ found (s .args .allowance) (buffers s) (short .result) (short .ensures) (c .before .before .before .before .before .before .before .before .before .before .before .before .before .before .before .before .before .before .before .before .before .before .if1 .left)
     _ (c .before .before .before .before .before .before .before .before .before .before .before .before .before .before .before .before .before .write-blocks .ensures) (c .before .before .before .before .before .before .before .before .settle-table .result) _ _ (c .before .before .before .before .before .before .before .before .settle-table .ensures))
 
 returns-3 : tie.Need-returns-3

@@ -45,13 +45,13 @@ settle-requires : tie.Need-settle-requires
 settle-requires c κs =
     let s = c .before .before .before .before .before .before .before .before .before .before .before .before .before .before .before .before .before .before .before .before .before in
     let begun = c .before .before .before .before .before .before .before .before .before .start-table in
-    let kept = begun .kept in (
+    let lengths = begun .kept in (
       drawn s,
       (
         record {
-          must-room = omega (arith, roomy s .must-room, kept);
-          may-room = omega (arith, roomy s .may-room, kept);
-          marks-room = omega (arith, roomy s .marks-room, kept);
+          must-room = omega (arith, roomy s .must-room, lengths);
+          may-room = omega (arith, roomy s .may-room, lengths);
+          marks-room = omega (arith, roomy s .marks-room, lengths);
         },
         started-begun (held s) (lent s) _ (begun .ensures),
       ),
@@ -64,13 +64,13 @@ write-classes-requires : tie.Need-write-classes-requires
 write-classes-requires c κs =
     let s = c .before .before .before .before .before .before .before .before .before .before .before .before .before .before .before .before .before .before .before .before .before .before .before .before .before .before .before .before .before .before .before .before .before .before .before in
     let begun = c .before .before .before .before .before .before .before .before .before .before .before .before .before .before .before .before .before .before .before .before .before .before .before .start-table .kept in
-    let kept = c .before .before .before .before .before .before .before .before .before .before .before .before .before .settle .kept in (
+    let lengths = c .before .before .before .before .before .before .before .before .before .before .before .before .before .settle .kept in (
       drawn s,
       (
         record {
-          must-room = omega (arith, roomy s .must-room, begun, kept);
-          may-room = omega (arith, roomy s .may-room, begun, kept);
-          marks-room = omega (arith, roomy s .marks-room, begun, kept);
+          must-room = omega (arith, roomy s .must-room, begun, lengths);
+          may-room = omega (arith, roomy s .may-room, begun, lengths);
+          marks-room = omega (arith, roomy s .marks-room, begun, lengths);
         },
         s .pre .1 .1,
       ),
@@ -83,12 +83,12 @@ clear-requires : tie.Need-clear-requires
 clear-requires c κs =
     let s = c .before .before .before .before .before .before .before .before .before .before .before .before .before .before .before .before .before .before .before .before .before .before .before .before .before .before .before .before .before .before .before .before .before in
     let begun = c .before .before .before .before .before .before .before .before .before .before .before .before .before .before .before .before .before .before .before .before .before .start-table .kept in
-    let kept = c .before .before .before .before .before .before .before .before .before .before .before .settle .kept in (
+    let lengths = c .before .before .before .before .before .before .before .before .before .before .before .settle .kept in (
       omega (arith, head-listed (columns s) (plan s) (drawn s)),
       record {
-        must-room = omega (arith, roomy s .must-room, begun, kept);
-        may-room = omega (arith, roomy s .may-room, begun, kept);
-        marks-room = omega (arith, roomy s .marks-room, begun, kept);
+        must-room = omega (arith, roomy s .must-room, begun, lengths);
+        may-room = omega (arith, roomy s .may-room, begun, lengths);
+        marks-room = omega (arith, roomy s .marks-room, begun, lengths);
       },
     )
 

@@ -87,7 +87,7 @@ loop-again c =
         (
           search needs,
           (
-            g .counted,
+            g .count-is,
             (
               g .laid (c .if1 .left),
               first-passes (a .nodes) (l .n) (overfullAt (a .geometry) (recordsIn (a .chart .now))) (c .before .before .before .before .before .before .loop-test .taken)

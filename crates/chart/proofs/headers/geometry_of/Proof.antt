@@ -1,7 +1,7 @@
 use borrow.Author.Needs.{needs}
 use native.Mathlib.Omega.{arith}
 use Rattle.chart.specs.Header.{geometryOf}
-use Rattle.chart.proofs.Rules.{line-bounds, sets-bound, ways-bounds}
+use Rattle.chart.proofs.Allowed.{line-bounds, sets-bound, ways-bounds}
 use Rattle.chart.proofs.headers.geometry_of.Statement.{statement}
 use Rattle.chart.proofs.headers.geometry_of.Tie as tie
 

@@ -3,17 +3,17 @@ use borrow.Author.Tests.{lt-ltb, le-ltb, le-leb, lt-leb, eq-eqb, ne-eqb, not-fal
 use mathlib.Core.Path.{_≡_, sym, _∙_}
 use Prim.Native.Nat.{ℕ}
 use lib.ListN.{drop}
-use Rattle.lists.specs.Choice.{firstRule}
+use Rattle.lists.specs.Choice.{firstCase}
 use Rattle.chart.specs.declared.headers.HeaderRead.the-variants.{Accepted, Refused}
-use Rattle.chart.specs.Header.{headerOf, headerRules}
+use Rattle.chart.specs.Header.{headerOf, headerCases}
 use Rattle.chart.proofs.headers.header_of.Statement.{statement}
 use Rattle.chart.proofs.headers.header_of.Tie as tie
 
 -- The rules from the kth on answer what all of them answer.
 abbrev Past : ℕ → tie.Start → Type 0
 Past k s =
-    firstRule Refused (headerRules (s .args .fields) (s .args .long)) (Accepted (headerOf (s .args .fields)))
-    ≡ firstRule Refused (drop k (headerRules (s .args .fields) (s .args .long))) (Accepted (headerOf (s .args .fields)))
+    firstCase Refused (headerCases (s .args .fields) (s .args .long)) (Accepted (headerOf (s .args .fields)))
+    ≡ firstCase Refused (drop k (headerCases (s .args .fields) (s .args .long))) (Accepted (headerOf (s .args .fields)))
 
 past1 : (c : tie.Else1) → Past 1 (c .before)
 past1 c = rw (eq-eqb _ _ (c .if1 .left))

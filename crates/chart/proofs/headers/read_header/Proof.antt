@@ -5,20 +5,20 @@ use mathlib.Core.Path.{ap, _∙_}
 use Prim.Native.Nat.{ℕ}
 use lib.Dec.{eqb}
 use lib.ListN.{length}
-use Rattle.lists.specs.Choice.{firstRule}
+use Rattle.lists.specs.Choice.{firstCase}
 use Rattle.chart.specs.declared.headers.HeaderRead.{HeaderRead}
 use Rattle.chart.specs.declared.headers.HeaderRead.the-variants.{Accepted, Refused}
 use Rattle.chart.specs.declared.headers.HeaderFields.{HeaderFields}
 use Rattle.chart.specs.Layout.{chartLength}
 use Rattle.refusals.proofs.Saying.{says-too}
-use Rattle.chart.specs.Header.{headerFields, headerOf, headerRules, headerRead, headerSays}
+use Rattle.chart.specs.Header.{headerFields, headerOf, headerCases, headerRead, headerSays}
 use Rattle.chart.proofs.headers.read_header.Statement.{statement}
 use Rattle.chart.proofs.headers.read_header.Tie as tie
 
 -- What fields that begin so many bytes give.
 abbrev answerIn : List ℕ → HeaderFields → HeaderRead
 answerIn bytes fields =
-    firstRule Refused (headerRules fields (eqb (length bytes) (chartLength (fields .nodes)))) (Accepted (headerOf fields))
+    firstCase Refused (headerCases fields (eqb (length bytes) (chartLength (fields .nodes)))) (Accepted (headerOf fields))
 
 returns : tie.Need-returns
 unfolding headerRead

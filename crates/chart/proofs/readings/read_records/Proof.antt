@@ -1,6 +1,6 @@
 use borrow.Author.Needs.{needs}
 use Rattle.chart.specs.Chart.{recordsIn}
-use Rattle.chart.proofs.Reader.{records-broken, records-over, records-kept}
+use Rattle.chart.proofs.Reader.{records-broken, records-over, records-keep}
 use Rattle.chart.proofs.readings.read_records.Statement.{statement}
 use Rattle.chart.proofs.readings.read_records.Tie as tie
 
@@ -43,7 +43,7 @@ returns-3 c =
     let a = c .before .before .before .before .before .before .before .before .before .before .args in
     let b = c .before .before .before .before .before .before .before .first-broken in
     let g = c .before .before .before .before .gather in
-    records-kept (recordsIn (a .chart .now)) (a .header) (b .result) (b .ensures) (c .before .before .before .before .before .before .if1 .left) (g .result) (g .last .1 .1 .1 .0) (g .ensures) _ (c .before .gathered2 .given .1)
+    records-keep (recordsIn (a .chart .now)) (a .header) (b .result) (b .ensures) (c .before .before .before .before .before .before .if1 .left) (g .result) (g .last .1 .1 .1 .0) (g .ensures) _ (c .before .gathered2 .given .1)
 
 pub read-records-spec : {M : Type 1} → statement M
 read-records-spec =

@@ -28,15 +28,15 @@ loop-holds c = (search needs, (search needs, nodes-none _ _))
 node-at-requires : tie.Need-node-at-requires Inv-loop μ-loop
 node-at-requires c κs = search needs
 
-work-of-requires : tie.Need-work-of-requires Inv-loop μ-loop
-work-of-requires c κs = search needs
+planned-of-requires : tie.Need-planned-of-requires Inv-loop μ-loop
+planned-of-requires c κs = search needs
 
 put-node-requires : tie.Need-put-node-requires Inv-loop μ-loop
 put-node-requires c κs =
     let a = c .before .before .before .before .before .before .before .before .before .before .args in
     let s = c .before .before .before .before .before .before .before .before .before .before in
     let short : length (take (a .count) (now (a .blocks))) ≤ mostBlocks = omega (arith, length-take-le (a .count) (now (a .blocks)) (s .pre .1 .0 .1), s .pre .1 .0 .0) in
-    (search needs, node-narrow (a .header .geometry) (take (a .count) (now (a .blocks))) (now (a .chart)) (c .before .before .before .before .before .loop .n) _ _ (c .before .before .before .node-at .ensures) (c .before .work-of .ensures) short)
+    (search needs, node-narrow (a .header .geometry) (take (a .count) (now (a .blocks))) (now (a .chart)) (c .before .before .before .before .before .loop .n) _ _ (c .before .before .before .node-at .ensures) (c .before .planned-of .ensures) short)
 
 add-n : tie.Need-add-n Inv-loop μ-loop
 add-n c = search needs
@@ -51,12 +51,12 @@ loop-again c =
     let l = c .before .before .before .before .before .before .before .before .loop in
     let blocks : List ℕ = take (a .count) (now (a .blocks)) in
     let node = c .before .before .before .before .before .before .node-at in
-    let work = c .before .before .before .before .work-of in
-    let planned : PlannedNode = record { work = work .result; targets = node .result .targets } in
+    let planned = c .before .before .before .before .planned-of in
+    let node-drawn : PlannedNode = record { what = planned .result; targets = node .result .targets } in
     let room : nodePlace (l .n) + 3 ≤ length (l .plan) = omega (arith, c .before .before .before .before .before .before .before .loop-test .taken, s .pre .0 .1, l .inv .1 .0) in
     let short : length blocks ≤ mostBlocks = omega (arith, length-take-le (a .count) (now (a .blocks)) (s .pre .1 .0 .1), s .pre .1 .0 .0) in
-    let narrow = node-narrow (a .header .geometry) blocks (now (a .chart)) (l .n) (node .result) (work .result) (node .ensures) (work .ensures) short in
-    (search needs, (search needs, nodes-turn (l .n) planned (l .plan) _ narrow room (c .before .before .put-node .ensures) (λ m. nodeBy (a .header .geometry) blocks (nodeAt (now (a .chart)) m)) (now (a .plan)) (l .inv .1 .1) (node-planned (a .header .geometry) blocks (now (a .chart)) (l .n) (node .result) (work .result) (node .ensures) (work .ensures))))
+    let narrow = node-narrow (a .header .geometry) blocks (now (a .chart)) (l .n) (node .result) (planned .result) (node .ensures) (planned .ensures) short in
+    (search needs, (search needs, nodes-turn (l .n) node-drawn (l .plan) _ narrow room (c .before .before .put-node .ensures) (λ m. nodeBy (a .header .geometry) blocks (nodeAt (now (a .chart)) m)) (now (a .plan)) (l .inv .1 .1) (node-planned (a .header .geometry) blocks (now (a .chart)) (l .n) (node .result) (planned .result) (node .ensures) (planned .ensures))))
 
 same-length : tie.Need-same-length Inv-loop μ-loop
 same-length c = search needs
@@ -76,7 +76,7 @@ draw-nodes-spec =
     μ-loop
     loop-holds
     node-at-requires
-    work-of-requires
+    planned-of-requires
     put-node-requires
     add-n
     loop-less

@@ -9,7 +9,8 @@ use Rattle.lists.specs.Loops.{patch}
 use Rattle.chart.specs.Geometry.{mostBlocks}
 use Rattle.lists.specs.Lists.{listOf}
 use Rattle.cache.specs.Ages.{ageOf, mustGrown, mayGrown, mustAfter, mayAfter, touchAges}
-use Rattle.rows.proofs.Touching.{grown, row-turn, touched-row}
+use Rattle.rows.specs.Rows.{grown}
+use Rattle.rows.proofs.Touching.{row-turn, touch-row}
 use Rattle.rows.proofs.Row.touch.Statement.{statement}
 use Rattle.rows.proofs.Row.touch.Tie as tie
 
@@ -94,8 +95,8 @@ returns c =
     let may-long : length (a .t1 .may) ≡ mostBlocks = search needs in
     let must-end : l .j ≡ length (a .t1 .must) = omega arith in
     let may-end : l .j ≡ length (a .t1 .may) = omega arith in
-    let must = touched-row (now (a .columns)) (a .m) (λ j. mustGrown) (a .t1 .must) (omega (arith, pre .0)) _ _ (l .inv .1 .0) must-end in
-    let may = touched-row (now (a .columns)) (a .m) (mayLimited (now (a .columns))) (a .t1 .may) (omega (arith, pre .0)) _ _ (l .inv .1 .1) may-end in
+    let must = touch-row (now (a .columns)) (a .m) (λ j. mustGrown) (a .t1 .must) (omega (arith, pre .0)) _ _ (l .inv .1 .0) must-end in
+    let may = touch-row (now (a .columns)) (a .m) (mayLimited (now (a .columns))) (a .t1 .may) (omega (arith, pre .0)) _ _ (l .inv .1 .1) may-end in
     λ i. record {
       must = (must ∙ ap (λ (n : ℕ). listOf n (mustAfter (λ k. getD (now (a .columns)) k 0) (a .m) (ageOf (a .t1 .must)))) must-long) i;
       may = (may ∙ ap (λ (n : ℕ). listOf n (mayAfter (λ k. getD (now (a .columns)) k 0) (λ k. getD (now (a .columns)) (2 * mostBlocks + k) 0) (a .m) (ageOf (a .t1 .may)))) may-long) i;

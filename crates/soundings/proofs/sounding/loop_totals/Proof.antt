@@ -2,7 +2,7 @@ use borrow.Author.Needs.{needs}
 use mathlib.Core.Path.{_≡_, _∙_}
 use Rattle.totals.specs.declared.Totals.{Totals}
 use Rattle.totals.specs.Totals.{totals}
-use Rattle.demands.specs.Soundings.{loopPrices}
+use Rattle.demands.specs.Soundings.{loopFigures}
 use Rattle.demands.proofs.Soundings.{sounded}
 use Rattle.soundings.proofs.sounding.loop_totals.Statement.{statement}
 use Rattle.soundings.proofs.sounding.loop_totals.Tie as tie
@@ -36,9 +36,9 @@ total-requires c κs = search needs
 
 returns : tie.Need-returns
 returns c =
-    let priced : _≡_ {A = Totals} _ (totals _ _ loopPrices) = c .total .ensures .0 in
-    priced
-    ∙ (λ i. totals (c .before .before .before .before .before .before .before .before .before .before .before .loop-chart .ensures i) (c .before .before .before .before .before .before .before .before .before .before .loop-table .ensures i) loopPrices)
+    let totalled : _≡_ {A = Totals} _ (totals _ _ loopFigures) = c .total .ensures .0 in
+    totalled
+    ∙ (λ i. totals (c .before .before .before .before .before .before .before .before .before .before .before .loop-chart .ensures i) (c .before .before .before .before .before .before .before .before .before .before .loop-table .ensures i) loopFigures)
     ∙ sounded .loop-totals
 
 pub loop-totals-spec : {M : Type 1} → statement M

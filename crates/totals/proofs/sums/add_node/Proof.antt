@@ -1,7 +1,7 @@
 use borrow.Author.Needs.{needs}
 use Prim.Native.Nat.{_*_, _≤_}
 use native.Mathlib.Omega.{arith}
-use Rattle.totals.specs.Inner.{costsAlone, mostAdded}
+use Rattle.totals.specs.Inner.{costsOf, mostAdded}
 use Rattle.totals.proofs.Summing.{low-rate-most, high-rate-most, added-most, nothing-added}
 use Rattle.totals.proofs.sums.add_node.Statement.{statement}
 use Rattle.totals.proofs.sums.add_node.Tie as tie
@@ -10,13 +10,13 @@ use Rattle.totals.proofs.sums.add_node.Tie as tie
 low-most : (c : tie.After-high-rate) → c .before .before .before .args .floor * c .before .low-rate .result ≤ mostAdded
 low-most c =
     let s = c .before .before .before in
-    let rate : c .before .low-rate .result ≤ 65535 = rw (c .before .low-rate .ensures) (low-rate-most (costsAlone (s .args .tariff)) (search needs) (search needs) (s .args .class)) in
+    let rate : c .before .low-rate .result ≤ 65535 = rw (c .before .low-rate .ensures) (low-rate-most (costsOf (s .args .tariff)) (search needs) (search needs) (s .args .class)) in
     added-most (s .args .floor) (c .before .low-rate .result) (omega (arith, s .fits .floor)) rate
 
 high-most : (c : tie.After-high-rate) → c .before .before .before .args .ceiling * c .high-rate .result ≤ mostAdded
 high-most c =
     let s = c .before .before .before in
-    let rate : c .high-rate .result ≤ 65535 = rw (c .high-rate .ensures) (high-rate-most (costsAlone (s .args .tariff)) (search needs) (search needs) (s .args .class)) in
+    let rate : c .high-rate .result ≤ 65535 = rw (c .high-rate .ensures) (high-rate-most (costsOf (s .args .tariff)) (search needs) (search needs) (s .args .class)) in
     added-most (s .args .ceiling) (c .high-rate .result) (omega (arith, s .fits .ceiling)) rate
 
 returns : tie.Need-returns

@@ -5,14 +5,14 @@ use native.Mathlib.Omega.{arith}
 use denote.Ref.{now}
 use lib.ListN.{getD}
 use Rattle.chart.specs.Geometry.{mostNodes}
-use Rattle.totals.specs.Inner.{pricesOf, Small, sumsTo}
+use Rattle.totals.specs.Inner.{costsOf, figuresOf, Small, sumsTo}
 use Rattle.totals.proofs.Summing.{small-more, small-turn, sums-turn}
 use Rattle.totals.proofs.sums.sum_nodes.Statement.{statement}
 use Rattle.totals.proofs.sums.sum_nodes.Tie as tie
 
 abbrev Inv-loop : tie.InvT-loop
 Inv-loop classes nodes tariff floors ceilings sums₀ n₀ sums n =
-    (n ≤ nodes) × (Small n sums × (sums ≡ sumsTo (pricesOf tariff floors ceilings) classes n))
+    (n ≤ nodes) × (Small n sums × (sums ≡ sumsTo (figuresOf tariff floors ceilings) classes n))
 
 abbrev μ-loop : tie.MeasureT-loop
 μ-loop classes nodes tariff floors ceilings sums₀ n₀ sums n = nodes - n
@@ -51,10 +51,10 @@ loop-again : tie.Need-loop-again Inv-loop μ-loop
 loop-again c =
     let a = c .before .before .before .before .before .before .before .before .before .args in
     let l = c .before .before .before .before .before .loop in
-    let small = small-turn (pricesOf (a .tariff) (now (a .floors)) (now (a .ceilings))) (search needs) (search needs) (getD (now (a .classes)) (l .n) 0)
+    let small = small-turn (costsOf (a .tariff)) (search needs) (search needs) (getD (now (a .classes)) (l .n) 0)
     (getD (now (a .floors)) (l .n) 0) (getD (now (a .ceilings)) (l .n) 0)
     (omega (arith, c .before .before .shared-slice-known5 .given (l .n))) (omega (arith, c .before .shared-slice-known6 .given (l .n))) (l .n) (l .sums) (l .inv .1 .0) in
-    (search needs, (subst (Small (l .n + 1)) (sym (c .add-node .ensures)) small, c .add-node .ensures ∙ sums-turn (pricesOf (a .tariff) (now (a .floors)) (now (a .ceilings))) (now (a .classes)) (l .n) (l .sums) (l .inv .1 .1)))
+    (search needs, (subst (Small (l .n + 1)) (sym (c .add-node .ensures)) small, c .add-node .ensures ∙ sums-turn (figuresOf (a .tariff) (now (a .floors)) (now (a .ceilings))) (now (a .classes)) (l .n) (l .sums) (l .inv .1 .1)))
 
 returns : tie.Need-returns Inv-loop μ-loop
 returns c =

@@ -1,0 +1,9 @@
+// Passes over the table of a plan in lent buffers (rules 9.2 to 9.5). One pass answers whether it changed anything; passes until one changes
+// nothing answer how many were made, or that the allowance was used up before. Callers keep that the buffers have room and hold a table of the
+// plan. Nothing is refused here.
+mod settling;
+mod taking;
+
+pub use settling::Settling;
+pub use settling::pass;
+pub use settling::settle;

@@ -1,0 +1,35 @@
+//! Calls of the four C functions with what each has to answer and to leave, worked out by the second program. `record` writes them to a
+//! file, and calls.c, which knows nothing of charts, makes the calls and compares.
+
+mod analysing;
+mod answers;
+mod buffer;
+mod case;
+mod checking;
+mod element;
+mod inputs;
+mod lengths;
+mod reading;
+mod tables;
+mod totalling;
+pub mod wrong;
+
+pub use buffer::Buffer;
+pub use case::{Case, Function};
+
+use charts::random::Random;
+
+/// The seed that `record` takes unless it is given another.
+pub const SEED: u64 = 20_250_701;
+
+/// The case of a number: the functions take turns, and all else is the seed's.
+pub fn case(seed: u64, number: u64) -> Case {
+    let mut random = Random::new(seed.wrapping_add(number));
+    let roomy = match number % 4 {
+        0 => reading::case(&mut random),
+        1 => analysing::case(&mut random),
+        2 => checking::case(&mut random),
+        _ => totalling::case(&mut random),
+    };
+    roomy.with_regard_to_room()
+}

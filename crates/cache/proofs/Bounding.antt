@@ -8,7 +8,6 @@ use native.Mathlib.Decide.{ℕ-discrete}
 use native.Mathlib.Omega.{arith}
 use borrow.Author.Tests.{eq-eqb, ne-eqb}
 use lib.ListN.{length}
-use Rattle.lists.proofs.Listed.{getD-listOf}
 use Rattle.cache.specs.Ages.{Columns, Ages, ageOf, mustAfter, mayAfter, touchAges, startAges, Tighter}
 use Rattle.cache.specs.Plain.{Cache, touchSet, hits, touch, age, Different, AllOf, Formed}
 use Rattle.cache.specs.Bounds.{Bounds}
@@ -16,6 +15,7 @@ use Rattle.cache.specs.Laws.{Aged, Named}
 use Rattle.cache.proofs.Growing.{grown-above, may-grown-below}
 use Rattle.cache.proofs.Places.{age-empty, age-most, age-apart, touch-ages, touch-first, touch-different, touch-own, touch-short, young-has, old-lacks}
 use Rattle.cache.proofs.Touching.{touch-must, touch-may}
+use Rattle.cache.proofs.Meeting.{start-must, start-may}
 
 -- ---- a touch of the whole cache
 
@@ -83,12 +83,11 @@ module _ (columns : Columns) (ways key : ℕ → ℕ) (blockAt : ℕ → ℕ) wh
 
   -- The start bounds what it allows: anything, or, where it is empty, lists that are.
   pub start-bounds : Named columns ways key blockAt → (empty : Bool) (cache : Cache) → Formed ways key cache → (empty ≡ true → (set : ℕ) → cache set ≡ []) → Bounds columns ways key blockAt (startAges columns empty) cache
-  unfolding startAges
   start-bounds named empty cache formed bare =
       record {
         formed = formed;
-        must-above = λ column h. omega (arith, getD-listOf (columns .count) (columns .mustLimit) 0 column h, named .must-limits column h, age-limit ways key cache (blockAt column));
-        may-below = λ column h. rw (getD-listOf (columns .count) (λ i. cond empty (columns .mayLimit i) 0) 0 column h) (least empty bare column h);
+        must-above = λ column h. omega (arith, start-must columns empty column h, named .must-limits column h, age-limit ways key cache (blockAt column));
+        may-below = λ column h. rw (start-may columns empty column h) (least empty bare column h);
       }
     where
       least : (t : Bool) → (t ≡ true → (set : ℕ) → cache set ≡ []) → (column : ℕ) → column < columns .count → cond t (columns .mayLimit column) 0 ≤ age ways key cache (blockAt column)

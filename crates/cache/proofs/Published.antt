@@ -1,23 +1,15 @@
 -- The ages of the rules are those of the published analysis, line by line.
 use mathlib.Core.Logic.{_⊎_, inl, inr, ⊎-elim}
 use mathlib.Core.Path.{_≡_, refl, _∙_}
-use mathlib.Core.Bool.{Bool, true, false}
-use Prim.Native.Nat.{ℕ, suc, _-_, _≤_, _<_, min, max}
+use mathlib.Core.Bool.{true}
+use Prim.Native.Nat.{ℕ, suc, _≤_, _<_, min, max}
 use native.Mathlib.Omega.{arith}
-use borrow.Author.Tests.{eq-eqb, ne-eqb, eqb-true, eqb-false, lt-ltb, le-ltb, le-leb, lt-leb}
-use lib.Dec.{eqb}
-use Rattle.lists.proofs.Orders.{below-or, at-most}
-use Rattle.cache.specs.Ages.{Columns, Ages, ageOf, mustGrown, mayGrown, mustAfter, mayAfter, touchAges, meetAges, startAges}
+use borrow.Author.Tests.{eq-eqb, ne-eqb, lt-ltb, le-ltb, le-leb, lt-leb}
+use Rattle.lists.proofs.Orders.{below-or, at-most, same-or}
+use Rattle.cache.specs.Ages.{ageOf, mustGrown, mayGrown, mustAfter, mayAfter}
 use Rattle.cache.proofs.Touching.{touch-must, touch-may}
 use Rattle.cache.proofs.Meeting.{meet-must, meet-may, start-must, start-may}
-use Rattle.cache.specs.Published.{InLine, InSome, MustLines, MayLines, AllShift, MustJoin, MayJoin, Same, Published, AsPublished}
-
-same-or : (a b : ℕ) → (a ≡ b) ⊎ (a ≡ b → ⊥)
-same-or a b = go (eqb a b) refl
-  where
-    go : (t : Bool) → eqb a b ≡ t → (a ≡ b) ⊎ (a ≡ b → ⊥)
-    go true e = inl (eqb-true a b e)
-    go false e = inr (eqb-false a b e)
+use Rattle.cache.specs.Published.{InLine, InSome, MustLines, MayLines, AllShift, MustJoin, MayJoin, Same, AsPublished}
 
 -- ---- a touch, by cases
 

@@ -1,10 +1,11 @@
--- Rules 6.2 to 6.4, 6.6 and 8.1 beside the analysis that they are taken from, in its own form: C. Ferdinand, F. Martin, R. Wilhelm and M. Alt, "Cache
--- behavior prediction by abstract interpretation", Science of Computer Programming 35 (1999), section 5. There a set has lines 1 to A, and a state
--- says which blocks stand in each. A block of age a, which is below A, stands in line a + 1; one of age A stands in none. Demand 2 promises that
--- the two agree, in each line and of each block (`published`).
--- Choices: line h + 1 of the may update is no line where h is A, and what it would get is gone. Where h is 1, the must update names line 1 twice; both
--- are taken together, so that nothing changes, as the words beside the formula have it. What states stand for is `Bounds`; an unknown start is the
--- rules' own.
+-- Rules 6.2 to 6.4, 6.6 and 8.1 beside the analysis that they are taken from, by lines as it has them: C. Ferdinand, F. Martin, R. Wilhelm and M.
+-- Alt, "Cache behavior prediction by abstract interpretation", Science of Computer Programming 35 (1999), section 5. There a set has lines 1 to A,
+-- and a state says which blocks stand in each. A block of age a, which is below A, stands in line a + 1; one of age A stands in none. Demand 2
+-- promises that the two agree, in each line and of each block (`published`).
+-- Choices: the copy of the article that this goes by lacks the formula of the must update. `MustLines`, and `AllShift` where it is of must, are put
+-- together from the words around it: a touch ages the blocks of its set that are younger than the one touched, all of them if that one is in no
+-- line, and no block of its age or older. All other formulas are the article's. Line h + 1 of the may update is no line where h is A, and what it
+-- would get is gone. What states stand for is `Bounds`; an unknown start is the rules' own.
 use Prim.Native.Nat.{ℕ, suc, _-_, _≤_, _<_, min, max}
 use mathlib.Core.Bool.{Bool, true}
 use mathlib.Core.Logic.{_⊎_}

@@ -10,14 +10,15 @@ use Rattle.chart.specs.Geometry.{blockOf, setOf, allPasses}
 use Rattle.chart.specs.Header.{fieldsIn, headerIn, headerNumbers}
 use Rattle.chart.specs.Chart.{recordsIn, nodeAt, chartIn}
 use Rattle.chart.specs.Sounded.{nodeOut, readOut}
-use Rattle.cache.specs.Plain.{has, touchSet, ageIn}
+use Rattle.cache.specs.Plain.{has, touchSet, ageIn, emptyCache}
 use Rattle.flow.specs.Pass.{afterPasses}
 use Rattle.ages.specs.Charted.{planOf, agesFlow}
 use Rattle.tables.specs.Lent.{lentOf}
 use Rattle.analysis.specs.Analysis.{Buffers, analysed, analyseSays}
+use Rattle.machine.specs.Machine.{costOf}
 use Rattle.report.specs.Report.{report}
 use Rattle.demands.specs.Charts.{loopChart}
-use Rattle.demands.specs.Soundings.{loop}
+use Rattle.demands.specs.Soundings.{loop, tenTurns}
 use Rattle.demands.specs.Corners.{shape}
 use Rattle.demands.specs.Refused.{sevens}
 use Rattle.demands.specs.Tabled.{checking, three, younger}
@@ -60,6 +61,8 @@ examples =
     ∷ ((asNumber (has 2 (1 ∷ 0 ∷ [])) ∷ touchSet 2 2 (1 ∷ 0 ∷ [])) reads (0 ∷ 2 ∷ 1 ∷ []))
     ∷ ((ageIn 2 (2 ∷ 1 ∷ []) 2 ∷ ageIn 2 (2 ∷ 1 ∷ []) 1 ∷ ageIn 2 (2 ∷ 1 ∷ []) 0 ∷ []) reads (0 ∷ 1 ∷ 2 ∷ []))
     ∷ ((asNumber (has 1 (2 ∷ 1 ∷ [])) ∷ touchSet 2 1 (2 ∷ 1 ∷ [])) reads (1 ∷ 1 ∷ 2 ∷ []))
+    -- section 5: of the ten turns one touch misses and ten hit
+    ∷ ((costOf loop 0 1 tenTurns emptyCache ∷ costOf loop 1 0 tenTurns emptyCache ∷ []) reads (1 ∷ 10 ∷ []))
     -- section 7: the loop's table, looser in a must age, and tighter than a walk allows
     ∷ (checking loopChart (three (2 ∷ 2 ∷ 0 ∷ []) (2 ∷ 0 ∷ 0 ∷ []) (1 ∷ 1 ∷ 1 ∷ [])) reads (0 ∷ 1 ∷ []))
     ∷ (checking loopChart (three (2 ∷ 2 ∷ 2 ∷ []) (2 ∷ 0 ∷ 0 ∷ []) (1 ∷ 1 ∷ 1 ∷ [])) reads (0 ∷ 1 ∷ []))

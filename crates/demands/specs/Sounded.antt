@@ -95,4 +95,4 @@ pub record Sounded : Type 0 where
   -- the examples of docs/RULES.md
   pub examples-hold : Hold examples
   -- how many soundings each list has: none is dropped unseen
-  pub how-many : map length (chartFields ∷ starred ∷ damaged ∷ unanalysed ∷ unchecked ∷ looser ∷ untotalled ∷ summed ∷ corners ∷ sharedSoundings ∷ shapeSoundings ∷ leftBehind ∷ edges ∷ right ∷ mistaken ∷ examples ∷ []) ≡ 12 ∷ 13 ∷ 26 ∷ 13 ∷ 13 ∷ 10 ∷ 20 ∷ 7 ∷ 16 ∷ 13 ∷ 6 ∷ 11 ∷ 12 ∷ 6 ∷ 6 ∷ 23 ∷ []
+  pub how-many : map length (chartFields ∷ starred ∷ damaged ∷ unanalysed ∷ unchecked ∷ looser ∷ untotalled ∷ summed ∷ corners ∷ sharedSoundings ∷ shapeSoundings ∷ leftBehind ∷ edges ∷ right ∷ mistaken ∷ examples ∷ []) ≡ 12 ∷ 13 ∷ 26 ∷ 13 ∷ 13 ∷ 10 ∷ 20 ∷ 7 ∷ 16 ∷ 13 ∷ 6 ∷ 11 ∷ 12 ∷ 6 ∷ 6 ∷ 24 ∷ []

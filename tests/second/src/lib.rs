@@ -1,5 +1,6 @@
-//! The second program: the tool in ordinary Rust, written apart from the proofs, from the rules (docs/RULES.md) alone, so that the two
-//! seldom share a mistake. The tests hold the proved program to it, and the measurement times the proved analysis against it.
+//! The second program: the tool in ordinary Rust, written apart from the proofs, from the paper that the rules (docs/RULES.md) are taken
+//! from, so that the two seldom share a mistake. The tests hold the proved program to it, and the measurement times the proved analysis
+//! against it.
 
 pub mod ages;
 pub mod analysis;

@@ -109,7 +109,8 @@ enum {
  *    6   its entry is not below N                               0            name a node that there is
  *    7   a spare bit of the header is set                       0            clear it
  *    8   it is not 8 + 8 N bytes long                           0            cut it, or add the missing records
- *    9   a record is not as rules 2.1 to 2.6 have it            that node    mend that node's record
+ *    9   a record is not as rules 2.1, 2.3, 2.4, 2.6 and 2.9    that node    mend that node's record; if both its arrows lead to
+ *        have it                                                             one node: one arrow, or the other target
  *   10   it has more blocks than VEILBUZZ_MOST_BLOCKS: the      that node    split the chart
  *        node, in node order, that brings the first too many
  *   11   a buffer has fewer places than are used, and is        0            lend N, B or N * B elements, as said below, and

@@ -32,7 +32,10 @@ const WORDS: [[&str; 2]; 17] = [
         "the chart is not 8 + 8 N bytes long",
         "cut it, or add the missing records",
     ],
-    ["a record breaks its rules", "mend that node's record"],
+    [
+        "a record breaks its rules",
+        "mend that node's record; if both its arrows lead to one node: one arrow, or the other target",
+    ],
     ["the chart has over BLOCKS blocks", "split the chart"],
     [
         "a lent buffer is shorter than used",

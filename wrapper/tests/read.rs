@@ -48,6 +48,8 @@ fn a_refusal_tells_its_number_and_its_place() {
     let mut chart = chart();
     chart.records[5].spare = 1;
     assert_eq!(read(&chart.bytes()), refusal(9, 5));
+    chart.records[3] = chart.records[3].twins(4);
+    assert_eq!(read(&chart.bytes()), refusal(9, 3));
     let many: Vec<u64> = (0..BLOCKS as u64 + 6).map(|block| block * 16).collect();
     assert_eq!(read(&Chart::reads(&many).bytes()), refusal(10, BLOCKS));
 }

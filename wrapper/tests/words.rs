@@ -10,7 +10,8 @@ fn refusal(number: usize, place: usize) -> String {
 fn a_refusal_says_its_number_its_place_what_was_found_and_what_to_do() {
     assert_eq!(
         refusal(9, 2),
-        "refused 9 at 2: a record breaks its rules (mend that node's record)"
+        "refused 9 at 2: a record breaks its rules \
+         (mend that node's record; if both its arrows lead to one node: one arrow, or the other target)"
     );
     assert_eq!(
         refusal(1, 0),

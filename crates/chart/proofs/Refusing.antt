@@ -76,7 +76,8 @@ tells-record nodes fields =
       first-unused = λ k. h .1 .1 .1 .1 .0 .1 (omega arith);
       second-used = λ k. h .1 .1 .1 .1 .1 .0 .0 (omega arith);
       second-unused = λ k. h .1 .1 .1 .1 .1 .0 .1 (omega arith);
-      spares = h .1 .1 .1 .1 .1 .1;
+      no-twins = λ k e. h .1 .1 .1 .1 .1 .1 .0 (omega arith, e);
+      spares = h .1 .1 .1 .1 .1 .1 .1;
     })
     (λ k. (
       k .kinds,
@@ -88,7 +89,10 @@ tells-record nodes fields =
             k .arrows,
             (
               ((λ h. k .first-used (omega arith)), λ h. k .first-unused (omega arith)),
-              (((λ h. k .second-used (omega arith)), λ h. k .second-unused (omega arith)), k .spares),
+              (
+                ((λ h. k .second-used (omega arith)), λ h. k .second-unused (omega arith)),
+                ((λ h. k .no-twins (omega (arith, h .0)) (h .1)), k .spares),
+              ),
             ),
           ),
         ),
@@ -99,7 +103,9 @@ tells-record nodes fields =
     (tells-and _ _ _ _ (tells-if _ _ _ _ (tells-eqb (fields .kind) 0) (tells-eqb (fields .address) 0))
     (tells-and _ _ _ _ (tells-leb (fields .outs) 2)
     (tells-and _ _ _ _ (tells-arrow nodes 0 (fields .outs) (fields .first))
-    (tells-and _ _ _ _ (tells-arrow nodes 1 (fields .outs) (fields .second)) (tells-eqb (fields .spare) 0)))))))
+    (tells-and _ _ _ _ (tells-arrow nodes 1 (fields .outs) (fields .second))
+    (tells-and _ _ _ _ (tells-not _ _ (tells-and _ _ _ _ (tells-ltb 1 (fields .outs)) (tells-eqb (fields .first) (fields .second))))
+    (tells-eqb (fields .spare) 0))))))))
 
 -- The blocks of a record: none of a bare step, else the one that holds its address.
 record-blocks : (geometry : Geometry) (fields : RecordFields) → blocksOf (touchesOf geometry (recordOf fields)) ≡ cond (eqb (fields .kind) 0) [] ((fields .address / 2 ^ geometry .line) ∷ [])

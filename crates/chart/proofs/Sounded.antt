@@ -8,7 +8,7 @@ use Rattle.chart.specs.Geometry.{blockOf, shapeAllowed}
 use Rattle.chart.specs.Record.{recordKeeps, recordOf, arrowsOf, touchesOf}
 use Rattle.chart.specs.Chart.{firstBroken, firstOverfull, readChart}
 use Rattle.chart.specs.Reading.{readingOf}
-use Rattle.chart.specs.Sounded.{chartFields, readOut, manyBlocks, ChartSounded}
+use Rattle.chart.specs.Sounded.{twinArrows, chartFields, readOut, manyBlocks, ChartSounded}
 
 -- All that has to be seen through for a chart to be read.
 all-unfolded : Unit {0}
@@ -19,6 +19,10 @@ fields-hold : Hold chartFields
 unfolding all-unfolded
 fields-hold = refl
 
+twins-hold : Hold twinArrows
+unfolding all-unfolded
+twins-hold = refl
+
 all-blocks : readOut (manyBlocks 65) ≡ 0 ∷ 0 ∷ 64 ∷ []
 unfolding all-unfolded
 all-blocks = refl
@@ -28,4 +32,4 @@ unfolding all-unfolded
 one-block-more = refl
 
 pub chart-sounded : ChartSounded
-chart-sounded = record { fields-hold = fields-hold; header-whole = λ header. refl; all-blocks = all-blocks; one-block-more = one-block-more }
+chart-sounded = record { fields-hold = fields-hold; twins-hold = twins-hold; header-whole = λ header. refl; all-blocks = all-blocks; one-block-more = one-block-more }

@@ -1,4 +1,4 @@
--- A node's record: its fields, what is allowed in them, what it touches and where its arrows lead. Rules 2.1 to 2.8 and 3.3.
+-- A node's record: its fields, what is allowed in them, what it touches and where its arrows lead. Rules 2.1 to 2.4, 2.6 to 2.9 and 3.3.
 -- Choices: one test for all that a record has to keep, of any fields, whether or not a word can hold them; touches are a list, of none or one.
 -- A record that is refused reads as something too: a kind above 2 as a read, more than two arrows as two.
 use Prim.Native.Nat.{ℕ, _^_, _<_}
@@ -26,12 +26,16 @@ recordFields word =
       spare = field recordWidths 5 word;
     }
 
--- Rule 2.4, of one arrow. Each is judged by itself, so that both may lead to one node (rule 2.5).
+-- Rule 2.4, of one arrow.
 abbrev pub arrowKeeps : ℕ → Bool → ℕ → Bool
 arrowKeeps nodes used target = cond used (ltb target nodes) (eqb target 0)
 
--- Rules 2.1 to 2.6, in a chart of so many nodes: the kind (rules 2.1 and 2.2), an address of 32 bits, as every one in a word is, a bare step's
--- (rule 2.3), the number of arrows (rule 2.1), both arrows (rules 2.4 and 2.5), the spare bits (rule 2.6).
+-- Rule 2.9, broken: two arrows are used, and both lead to one node.
+abbrev pub twins : RecordFields → Bool
+twins fields = ltb 1 (fields .outs) && eqb (fields .first) (fields .second)
+
+-- What a record keeps in a chart of so many nodes: the kind (rules 2.1 and 2.2), an address of 32 bits, as every one in a word is, a bare step's
+-- (rule 2.3), the number of arrows (rule 2.1), each arrow (rule 2.4), both together (rule 2.9), the spare bits (rule 2.6).
 unfoldable pub recordKeeps : ℕ → RecordFields → Bool
 recordKeeps nodes fields =
     leb (fields .kind) 2
@@ -40,7 +44,8 @@ recordKeeps nodes fields =
     && (leb (fields .outs) 2
     && (arrowKeeps nodes (ltb 0 (fields .outs)) (fields .first)
     && (arrowKeeps nodes (ltb 1 (fields .outs)) (fields .second)
-    && eqb (fields .spare) 0)))))
+    && (not (twins fields)
+    && eqb (fields .spare) 0))))))
 
 -- Rule 2.2: what a record is by its kind.
 unfoldable pub recordOf : RecordFields → Record

@@ -1,6 +1,6 @@
--- When each of refusals 1 to 10 applies, as statements about the bytes. Rules 11.1 to 11.10 a second time, with rules 1.2, 1.3, 2.1 to 2.6, 3.1 and 3.3:
--- the tests of `Header.antt`, `Record.antt` and `Chart.antt` run; these are read. Demand 1 promises that the two agree. The limits of N, S, A
--- and the blocks are the geometry's on both sides: their numbers are sounded.
+-- When each of refusals 1 to 10 applies, as statements about the bytes. Rules 11.1 to 11.10 a second time, with rules 1.2, 1.3, 2.1 to 2.4,
+-- 2.6, 2.9, 3.1 and 3.3: the tests of `Header.antt`, `Record.antt` and `Chart.antt` run; these are read. Demand 1 promises that the two agree.
+-- The limits of N, S, A and the blocks are the geometry's on both sides: their numbers are sounded.
 -- Choices: a byte past the end counts as 0; any kind but 0 touches; that the two agree is said of bytes (`AreBytes`).
 use Prim.Native.Nat.{ℕ, suc, _+_, _*_, _/_, _^_, _≤_, _<_}
 use mathlib.Core.Bool.{cond}
@@ -24,7 +24,7 @@ pub record ShapeKeeps (fields : HeaderFields) : Type 0 where
   pub ways-from : 1 ≤ fields .ways
   pub ways-to : fields .ways ≤ mostWays
 
--- Rules 2.1 to 2.6: what a record in a chart of so many nodes has to keep.
+-- Rules 2.1, 2.3, 2.4, 2.6 and 2.9: what a record in a chart of so many nodes has to keep.
 pub record RecordKeeps (nodes : ℕ) (fields : RecordFields) : Type 0 where
   -- rules 2.1 and 2.2
   pub kinds : fields .kind ≤ 2
@@ -34,11 +34,13 @@ pub record RecordKeeps (nodes : ℕ) (fields : RecordFields) : Type 0 where
   pub steps : fields .kind ≡ 0 → fields .address ≡ 0
   -- rule 2.1
   pub arrows : fields .outs ≤ 2
-  -- rule 2.4, and rule 2.5, since neither arrow's target is held to the other's
+  -- rule 2.4
   pub first-used : 1 ≤ fields .outs → fields .first < nodes
   pub first-unused : fields .outs ≡ 0 → fields .first ≡ 0
   pub second-used : 2 ≤ fields .outs → fields .second < nodes
   pub second-unused : fields .outs ≤ 1 → fields .second ≡ 0
+  -- rule 2.9
+  pub no-twins : 2 ≤ fields .outs → fields .first ≡ fields .second → ⊥
   -- rule 2.6
   pub spares : fields .spare ≡ 0
 

@@ -1,10 +1,12 @@
 -- Soundings of the reader and of what it reads by: a header and a record in which no two fields can change places unseen (they are no chart's:
--- entry and arrows are not below N), a bare step, a read and a write, and the limits of N and of the blocks from both sides (rules 1.2 and 3.4).
+-- entry and arrows are not below N), a bare step, a read and a write, the limits of N and of the blocks from both sides (rules 1.2 and 3.4), two
+-- arrows to one node, and what looks alike and is allowed (rule 2.9).
 -- Nothing here is a rule of the tool: these are examples, and `sounded` in proofs/Sounded.antt holds the definitions to them.
-use Prim.Native.Nat.{ℕ, _*_, _-_, _/_, _%_}
+use Prim.Native.Nat.{ℕ, _+_, _*_, _-_, _/_, _%_}
 use mathlib.Core.Bool.{cond}
 use mathlib.Core.List.{List, [], _∷_, _++_, map}
 use mathlib.Core.Path.{_≡_}
+use lib.ListN.{replicate, set}
 use Rattle.lists.specs.Lists.{listOf, joined}
 use Rattle.lists.specs.Soundings.{Sounding, _reads_, Hold}
 use Rattle.chart.specs.declared.shape.Geometry.{Geometry}
@@ -12,8 +14,9 @@ use Rattle.chart.specs.declared.records.Record.{Record}
 use Rattle.chart.specs.declared.records.Record.the-variants.{Step, Reference}
 use Rattle.chart.specs.declared.records.Node.{Node}
 use Rattle.chart.specs.declared.headers.Header.{Header}
+use Rattle.chart.specs.Layout.{wordAt}
 use Rattle.chart.specs.Header.{startCode, headerNumbers, headerIn}
-use Rattle.chart.specs.Record.{Touch, arrowsOf, touchesOf}
+use Rattle.chart.specs.Record.{Touch, recordFields, recordKeeps, arrowsOf, touchesOf}
 use Rattle.chart.specs.Chart.{nodeAt}
 use Rattle.chart.specs.Reading.{readSays}
 
@@ -69,6 +72,72 @@ manyBlocks nodes =
 abbrev pub headerAlone : ℕ → List ℕ
 headerAlone nodes = 0x01 ∷ 0x20 ∷ 0x20 ∷ 0x00 ∷ (nodes / 16) ∷ (nodes % 16 * 16) ∷ 0x00 ∷ 0x00 ∷ []
 
+-- A bare step (0), a read of 0x10 (1) or a write of 0x20 (2), with so many arrows, and with these numbers in the fields of the two targets.
+abbrev pub nodeTo : ℕ → ℕ → ℕ → ℕ → List ℕ
+nodeTo kind outs first second =
+    (kind * 64) ∷ 0x00 ∷ 0x00 ∷ (kind * 4) ∷ (outs * 16 + first / 256) ∷ (first % 256) ∷ (second / 16) ∷ (second % 16 * 16) ∷ []
+
+abbrev pub stepTo : ℕ → ℕ → ℕ → List ℕ
+stepTo outs first second = nodeTo 0 outs first second
+
+-- A step that ends, and one that breaks another rule: a spare bit is set.
+abbrev pub ends : List ℕ
+ends = stepTo 0 0 0
+
+abbrev pub brokenStep : List ℕ
+brokenStep = 0x00 ∷ 0x00 ∷ 0x00 ∷ 0x00 ∷ 0x00 ∷ 0x00 ∷ 0x00 ∷ 0x01 ∷ []
+
+abbrev pub threeNodes : List ℕ → List ℕ → List ℕ → List ℕ
+threeNodes node0 node1 node2 = headerAlone 3 ++ node0 ++ node1 ++ node2
+
+-- What the reader says of three nodes, and of so many steps that end and one more with two arrows.
+abbrev pub readThree : List ℕ → List ℕ → List ℕ → List ℕ
+readThree node0 node1 node2 = readOut (threeNodes node0 node1 node2)
+
+abbrev pub readFork : ℕ → ℕ → ℕ → List ℕ
+readFork before first second = readOut (headerAlone (before + 1) ++ replicate (8 * before) 0x00 ++ stepTo 2 first second)
+
+-- Whether a step with two arrows keeps its rules among as many nodes as a field can count: 1 for yes.
+abbrev pub forkKeeps : ℕ → ℕ → ℕ
+forkKeeps first second = cond (recordKeeps 4096 (recordFields (wordAt (stepTo 2 first second) 0))) 1 0
+
+-- Each bit of a target alone, and all of them.
+abbrev pub targets : List ℕ
+targets = 1 ∷ 2 ∷ 4 ∷ 8 ∷ 16 ∷ 32 ∷ 64 ∷ 128 ∷ 256 ∷ 512 ∷ 1024 ∷ 2048 ∷ 4095 ∷ []
+
+abbrev pub twinArrows : List Sounding
+twinArrows =
+    -- two arrows to node 1 are refused at the node that they lead out of, of each kind, and at node 1 itself
+    (readThree (stepTo 2 1 1) ends ends reads (9 ∷ 0 ∷ 0 ∷ []))
+    ∷ (readThree ends ends (nodeTo 1 2 1 1) reads (9 ∷ 2 ∷ 0 ∷ []))
+    ∷ (readThree ends ends (nodeTo 2 2 1 1) reads (9 ∷ 2 ∷ 0 ∷ []))
+    ∷ (readThree ends (stepTo 2 1 1) ends reads (9 ∷ 1 ∷ 0 ∷ []))
+    -- also to node 0, where the two fields are 0 as in a node without arrows, to the last node, where there is one node, and where there are more
+    ∷ (readThree ends ends (stepTo 2 0 0) reads (9 ∷ 2 ∷ 0 ∷ []))
+    ∷ (readThree ends (stepTo 2 2 2) ends reads (9 ∷ 1 ∷ 0 ∷ []))
+    ∷ (readFork 0 0 0 reads (9 ∷ 0 ∷ 0 ∷ []))
+    ∷ (readFork 17 17 17 reads (9 ∷ 17 ∷ 0 ∷ []))
+    -- the first node that breaks a rule is told: another rule broken at an earlier node, at a later one; twins at two nodes
+    ∷ (readThree brokenStep (stepTo 2 1 1) ends reads (9 ∷ 0 ∷ 0 ∷ []))
+    ∷ (readThree ends (stepTo 2 1 1) brokenStep reads (9 ∷ 1 ∷ 0 ∷ []))
+    ∷ (readThree ends (stepTo 2 0 0) (stepTo 2 1 1) reads (9 ∷ 1 ∷ 0 ∷ []))
+    -- a length that is wrong is told before them, too many blocks are not: node 65 brings the 65th, and has two arrows to node 0
+    ∷ (readOut (threeNodes (stepTo 2 1 1) ends ends ++ 0x00 ∷ []) reads (8 ∷ 0 ∷ 0 ∷ []))
+    ∷ (readOut (set (manyBlocks 66) 532 0x20) reads (9 ∷ 65 ∷ 0 ∷ []))
+    -- allowed: no arrow; one to node 0 beside an unused 0, of each kind; one to the node itself
+    ∷ (readThree ends ends ends reads (0 ∷ 0 ∷ 0 ∷ []))
+    ∷ (readThree (stepTo 1 0 0) (nodeTo 1 1 0 0) (nodeTo 2 1 0 0) reads (0 ∷ 0 ∷ 2 ∷ []))
+    ∷ (readThree ends ends (stepTo 1 2 0) reads (0 ∷ 0 ∷ 0 ∷ []))
+    -- allowed: to the node itself and elsewhere, in both orders; from two nodes to one; to nodes that are further apart
+    ∷ (readThree ends (stepTo 2 1 2) (stepTo 2 0 2) reads (0 ∷ 0 ∷ 0 ∷ []))
+    ∷ (readThree (stepTo 2 1 2) (stepTo 2 2 1) ends reads (0 ∷ 0 ∷ 0 ∷ []))
+    ∷ (readFork 3 3 0 reads (0 ∷ 0 ∷ 0 ∷ []))
+    ∷ (readFork 17 1 17 reads (0 ∷ 0 ∷ 0 ∷ []))
+    -- every bit of a target counts: none makes two of them alike, and none makes one differ from itself
+    ∷ (map (forkKeeps 0) targets reads replicate 13 1)
+    ∷ (map (λ target. forkKeeps target target) targets reads replicate 13 0)
+    ∷ []
+
 abbrev pub chartFields : List Sounding
 chartFields =
     (headerNumbers (headerIn emptyHeader) reads (5 ∷ 3 ∷ 6 ∷ 1 ∷ 255 ∷ 0x123 ∷ []))
@@ -90,6 +159,7 @@ chartFields =
 
 pub record ChartSounded : Type 0 where
   pub fields-hold : Hold chartFields
+  pub twins-hold : Hold twinArrows
   pub header-whole : (header : Header)
       → headerNumbers header ≡ header .geometry .line ∷ header .geometry .sets ∷ header .geometry .ways ∷ startCode (header .start) ∷ header .nodes ∷ header .entry ∷ []
   -- 64 blocks are a chart; the 65th is brought by node 65

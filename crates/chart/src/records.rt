@@ -1,10 +1,11 @@
-// A node's record: what it does, where its arrows lead, and whether it keeps rules 2.1 to 2.6. `first_broken` answers the first node whose
-// record does not; nothing else here refuses, and a record that breaks a rule reads as something too. Callers keep bytes that hold the record.
+// A node's record: what it does, where its arrows lead, and whether it keeps rules 2.1, 2.3, 2.4, 2.6 and 2.9. `first_broken` answers the
+// first node whose record does not; nothing else here refuses, and a record that breaks a rule reads as something too. Callers keep bytes that hold
+// the record.
 ghost use mathlib.Core.Path.{_≡_};
 ghost use Prim.Native.Nat.{_+_, _^_, _≤_, _<_};
 ghost use lib.ListN.{length};
 ghost use Rattle.chart.specs.Layout.{chartLength};
-ghost use Rattle.chart.specs.Record.{recordFields, arrowKeeps, recordKeeps, recordOf, nodeOf};
+ghost use Rattle.chart.specs.Record.{recordFields, arrowKeeps, twins, recordKeeps, recordOf, nodeOf};
 ghost use Rattle.chart.specs.Chart.{recordsIn, nodeAt, firstBroken};
 use crate::words::bits;
 use crate::words::word_at;
@@ -114,7 +115,14 @@ fn arrow_keeps(nodes: usize, used: bool, target: u64) -> bool
     }
 }
 
-// Whether a record of these fields keeps rules 2.1 to 2.6 in a chart of so many nodes.
+// Whether two arrows are used and both lead to one node, which rule 2.9 forbids.
+fn twins(fields: RecordFields) -> bool
+    ensures { λ r. ⌜ r ≡ twins fields ⌝ }
+{
+    (1 < fields.outs) & (fields.first == fields.second)
+}
+
+// Whether a record of these fields keeps its rules in a chart of so many nodes.
 fn record_keeps(nodes: usize, fields: RecordFields) -> bool
     ensures { λ r. ⌜ r ≡ recordKeeps nodes fields ⌝ }
 {
@@ -123,10 +131,11 @@ fn record_keeps(nodes: usize, fields: RecordFields) -> bool
     let outs = fields.outs;
     let first = arrow_keeps(nodes, 0 < outs, fields.first);
     let second = arrow_keeps(nodes, 1 < outs, fields.second);
+    let alike = twins(fields);
     let fits = address < 4294967296;
     let addressed = (kind != 0) | (address == 0);
     let clear = fields.spare == 0;
-    (kind <= 2) & (fits & (addressed & ((outs <= 2) & (first & (second & clear)))))
+    (kind <= 2) & (fits & (addressed & ((outs <= 2) & (first & (second & (!alike & clear))))))
 }
 
 // The first node whose record breaks its rules, or `nodes` (rule 11.9).

@@ -52,8 +52,9 @@ examples =
     -- section 1: the loop's edition, header and length
     ((fieldsIn loopChart .edition ∷ headerNumbers (headerIn loopChart)) reads (1 ∷ 4 ∷ 0 ∷ 2 ∷ 1 ∷ 3 ∷ 0 ∷ []))
     ∷ ((length loopChart ∷ []) reads (32 ∷ []))
-    -- section 2: its node 1, with the spare bits
+    -- section 2: its node 1, with the spare bits; the same with both arrows to node 2
     ∷ ((recordsIn loopChart 1 .spare ∷ nodeOut (nodeAt loopChart 1)) reads (0 ∷ 1 ∷ 0 ∷ 2 ∷ 1 ∷ 2 ∷ []))
+    ∷ (readOut (set loopChart 21 0x02) reads (9 ∷ 1 ∷ 0 ∷ []))
     -- section 3: two addresses with their blocks and sets, and the loop's blocks
     ∷ ((blockOf (shape 4 1 1) 0x23 ∷ setOf (shape 4 1 1) 2 ∷ blockOf (shape 4 1 1) 0x30 ∷ setOf (shape 4 1 1) 3 ∷ []) reads (2 ∷ 0 ∷ 3 ∷ 1 ∷ []))
     ∷ (chartIn loopChart .blocks reads (0 ∷ []))

@@ -16,7 +16,7 @@ use Rattle.checker.specs.Checker.{checked}
 use Rattle.totals.specs.declared.Totals.the-variants.{Between}
 use Rattle.totals.specs.Totals.{totals}
 use Rattle.chart.specs.Geometry.{longestChart, passesFor, allPasses}
-use Rattle.chart.specs.Sounded.{chartFields, ChartSounded}
+use Rattle.chart.specs.Sounded.{chartFields, twinArrows, ChartSounded}
 use Rattle.report.specs.Report.{taken, report}
 use Rattle.report.specs.Ending.{refuses, endingOf}
 use Rattle.chart.specs.Chart.{Chart}
@@ -85,7 +85,7 @@ pub record Sounded : Type 0 where
   -- the plain machine pays k times as much where both costs are k times as high
   pub cost-scales : (chart : Chart) (k hitCost missCost : ℕ) (ts : List ℕ) (contents : Contents chart)
       → costOf chart (k * hitCost) (k * missCost) ts contents ≡ k * costOf chart hitCost missCost ts contents
-  -- the reader's: fields, kinds, and the limits
+  -- the reader's: fields, kinds, two arrows to one node, and the limits
   pub chart-sounded : ChartSounded
   -- corners that the starred soundings leave out
   pub corners-hold : Hold corners
@@ -95,4 +95,4 @@ pub record Sounded : Type 0 where
   -- the examples of docs/RULES.md
   pub examples-hold : Hold examples
   -- how many soundings each list has: none is dropped unseen
-  pub how-many : map length (chartFields ∷ starred ∷ damaged ∷ unanalysed ∷ unchecked ∷ looser ∷ untotalled ∷ summed ∷ corners ∷ sharedSoundings ∷ shapeSoundings ∷ leftBehind ∷ edges ∷ right ∷ mistaken ∷ examples ∷ []) ≡ 12 ∷ 13 ∷ 26 ∷ 13 ∷ 13 ∷ 10 ∷ 20 ∷ 7 ∷ 16 ∷ 13 ∷ 6 ∷ 11 ∷ 12 ∷ 6 ∷ 6 ∷ 24 ∷ []
+  pub how-many : map length (chartFields ∷ twinArrows ∷ starred ∷ damaged ∷ unanalysed ∷ unchecked ∷ looser ∷ untotalled ∷ summed ∷ corners ∷ sharedSoundings ∷ shapeSoundings ∷ leftBehind ∷ edges ∷ right ∷ mistaken ∷ examples ∷ []) ≡ 12 ∷ 22 ∷ 13 ∷ 26 ∷ 13 ∷ 13 ∷ 10 ∷ 20 ∷ 7 ∷ 16 ∷ 13 ∷ 6 ∷ 11 ∷ 12 ∷ 6 ∷ 6 ∷ 25 ∷ []

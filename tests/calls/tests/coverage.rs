@@ -1,6 +1,8 @@
 //! So that a run is no idle one: what the first cases of the gate's file have among them.
 
 use calls::{Case, Function, SEED};
+use charts::twins::{record_of, twins_alone};
+use second::chart::Chart;
 use std::collections::BTreeMap;
 
 /// As many as the run under valgrind has, the shortest of all.
@@ -41,6 +43,19 @@ fn each_function_gives_each_of_its_refusals_and_no_other() {
         let other = met.keys().find(|key| key.0 == function && !numbers.contains(&key.1));
         assert_eq!(other, None);
     }
+}
+
+#[test]
+fn each_function_refuses_two_arrows_to_one_node() {
+    let twins = |case: &Case| {
+        let chart = case.buffers[0].elements::<u8>();
+        Chart::read(&chart).is_err_and(|refusal| {
+            refusal.number == 9 && twins_alone(record_of(&chart, refusal.place), chart.len() / 8 - 1)
+        })
+    };
+    let refused = cases().filter(|case| case.returned == 9 && twins(case));
+    let met = tally(refused.map(|case| case.function));
+    assert!(met.len() == 4 && met.values().all(|&times| times >= 20), "{met:?}");
 }
 
 /// The buffers that refusal 11 speaks of, by their places among the parameters.

@@ -1,7 +1,7 @@
 //! So that a run is no idle one: what the charts of the gate's shortest file reach and touch.
 
-use charts::random_edges::EDGES;
 use calls::{Case, Function, SEED};
+use charts::random_edges::EDGES;
 use second::chart::Chart;
 use second::limits::BLOCKS;
 

@@ -15,6 +15,7 @@ pub mod random_edges;
 mod random_loose;
 mod random_reached;
 mod record;
+pub mod twins;
 
 pub use chart::Chart;
 pub use header::Header;

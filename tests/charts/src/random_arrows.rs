@@ -32,7 +32,11 @@ pub fn arrows(random: &mut Random, nodes: u64) -> Arrows {
             targets.push(elsewhere(random, &order, place));
         }
         if targets.len() == 1 && random.once_in(forks) {
-            targets.push(elsewhere(random, &order, place));
+            let other = elsewhere(random, &order, place);
+            // two arrows to one node are a damage
+            if other != targets[0] {
+                targets.push(other);
+            }
         }
         if random.once_in(2) {
             targets.reverse();

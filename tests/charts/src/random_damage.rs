@@ -41,17 +41,20 @@ fn damage_header(random: &mut Random, header: &mut Header) {
     }
 }
 
-/// Gives one field of one record any value that it can hold.
+/// Gives one field of one record any value that it can hold, or has its two arrows lead to one node.
 fn damage_record(random: &mut Random, chart: &mut Chart) {
     let nodes = chart.records.len() as u64;
     let record = &mut chart.records[random.below(nodes) as usize];
-    match random.below(6) {
+    match random.below(8) {
         0 => record.kind = random.below(4),
         1 => record.address = random.below(1 << 32),
         2 => record.outs = random.below(4),
         3 => record.first = random.within(nodes - 1, nodes + 1),
         4 => record.second = random.within(nodes - 1, nodes + 1),
-        _ => record.spare = random.below(16),
+        5 => record.spare = random.below(16),
+        // a label typed twice: where the first arrow leads, or to any node
+        6 => *record = record.twins(record.first),
+        _ => *record = record.twins(random.below(nodes)),
     }
 }
 

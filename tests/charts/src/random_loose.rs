@@ -82,7 +82,7 @@ fn record(random: &mut Random, pool: &[u64], fresh: &mut usize) -> Record {
     }
 }
 
-/// The record with up to two arrows. Off the course they lead anywhere, to the last node more often than to others.
+/// The record with up to two arrows, to different nodes. Off the course they lead anywhere, to the last node more often than to others.
 fn with_arrows(random: &mut Random, record: Record, node: u64, nodes: u64, course: Course) -> Record {
     let outs = match course {
         Course::Any => random.below(3),
@@ -99,6 +99,10 @@ fn with_arrows(random: &mut Random, record: Record, node: u64, nodes: u64, cours
             _ if random.once_in(4) => nodes - 1,
             _ => random.below(nodes),
         };
-        record.to(target)
+        if record.leads_to(target) {
+            record
+        } else {
+            record.to(target)
+        }
     })
 }

@@ -1,4 +1,5 @@
 use crate::pack::pack;
+use second::fields::Fields;
 
 /// A record's fields in their order.
 #[derive(Clone, Copy, Debug, PartialEq)]
@@ -55,6 +56,40 @@ impl Record {
         }
     }
 
+    /// Whether it has an arrow to that node.
+    pub fn leads_to(&self, target: u64) -> bool {
+        self.outs >= 1 && self.first == target || self.outs >= 2 && self.second == target
+    }
+
+    /// Whether two arrows lead to one node.
+    pub fn has_twins(&self) -> bool {
+        self.outs == 2 && self.first == self.second
+    }
+
+    /// The same with both arrows to one node.
+    pub fn twins(self, target: u64) -> Record {
+        Record {
+            outs: 2,
+            first: target,
+            second: target,
+            ..self
+        }
+    }
+
+    /// The record of eight bytes.
+    pub fn of_bytes(bytes: [u8; 8]) -> Record {
+        let mut fields = Fields::of(bytes);
+        let mut take = |width| fields.take(width).into();
+        Record {
+            kind: take(2),
+            address: take(32),
+            outs: take(2),
+            first: take(12),
+            second: take(12),
+            spare: take(4),
+        }
+    }
+
     pub fn bytes(&self) -> [u8; 8] {
         pack(&[
             (2, self.kind),
@@ -82,5 +117,6 @@ mod tests {
             spare: 0x5,
         };
         assert_eq!(record.bytes(), [0xA0, 0x00, 0x00, 0x00, 0x5A, 0xBC, 0xDE, 0xF5]);
+        assert_eq!(Record::of_bytes(record.bytes()), record);
     }
 }

@@ -29,6 +29,16 @@ fn most_nodes_are_reached() {
 }
 
 #[test]
+fn whole_charts_have_no_fault_but_perhaps_a_block_too_many() {
+    let mut random = Random::new(3);
+    for _ in 0..5_000 {
+        let bytes = whole(&mut random).bytes();
+        let fault = Chart::read(&bytes).err().filter(|refusal| refusal.number != 10);
+        assert_eq!(fault, None);
+    }
+}
+
+#[test]
 fn charts_at_an_edge_have_just_so_many_blocks() {
     let mut random = Random::new(2);
     let mut times = BTreeMap::new();

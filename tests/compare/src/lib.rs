@@ -21,5 +21,6 @@ pub mod table;
 pub mod tables;
 pub mod tally;
 pub mod trial;
+pub mod twins;
 pub mod walks;
 pub mod watch;

@@ -11,6 +11,7 @@ use crate::same::{holds, Held};
 use crate::table::{LentTable, Table};
 use crate::tables::{almost, never, noise, passing, NOISE};
 use crate::tally::{Tally, CHART};
+use crate::twins;
 use crate::walks;
 use charts::random::Random;
 use second::chart::Chart;
@@ -26,7 +27,10 @@ pub fn trial(random: &mut Random, tally: &mut Tally, chart: &[u8]) -> Held {
     }
     match ask::read(tally, chart)? {
         Ok(header) => accepted(random, tally, chart, header),
-        Err(_) => refused(random, tally, chart),
+        Err(refusal) => {
+            twins::count(tally, chart, refusal);
+            refused(random, tally, chart)
+        }
     }
 }
 

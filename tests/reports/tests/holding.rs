@@ -35,7 +35,7 @@ fn another_last_byte_is_refused() {
 #[test]
 #[should_panic(expected = "the second program's")]
 fn a_byte_less_is_refused() {
-    changed(|printed| drop(printed.pop()));
+    changed(|printed| printed.truncate(printed.len() - 1));
 }
 
 #[test]

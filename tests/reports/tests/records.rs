@@ -123,9 +123,82 @@ fn an_arrow_that_is_not_used_is_0() {
 }
 
 #[test]
-fn both_arrows_may_have_one_target() {
+fn two_arrows_to_one_node_give_9() {
     for target in 0..NODES as u64 {
-        keeps(Record::step().to(target).to(target));
+        breaks(Record::step().twins(target));
+        breaks(Record::read(0).twins(target));
+        breaks(Record::write(16).twins(target));
+    }
+}
+
+#[test]
+fn every_bit_of_a_target_counts() {
+    let last = limits::NODES as u64 - 1;
+    let mut chart = Chart::steps(limits::NODES);
+    for bit in (0..12).map(|bit| 1 << bit).filter(|&bit| bit <= last) {
+        chart.records[5] = Record::step().to(last).to(last ^ bit);
+        accepts(&chart.bytes(), limits::NODES, 0);
+        chart.records[5] = Record::step().twins(last ^ bit);
+        says(&chart.bytes(), "refused 9 at 5");
+    }
+    chart.records[5] = Record::step().twins(last);
+    says(&chart.bytes(), "refused 9 at 5");
+}
+
+#[test]
+fn equal_fields_of_which_not_both_are_used_are_no_two_arrows() {
+    keeps(Record::step());
+    keeps(Record::read(0));
+    keeps(Record::step().to(0));
+    keeps(Record::read(0).to(0));
+    breaks(Record {
+        outs: 1,
+        ..Record::step().twins(1)
+    });
+    breaks(Record {
+        outs: 0,
+        ..Record::step().twins(1)
+    });
+}
+
+#[test]
+fn a_node_may_lead_to_itself_alone_or_beside_another() {
+    for own in 0..NODES as u64 {
+        let mut targets = vec![vec![own]];
+        for other in (0..NODES as u64).filter(|&other| other != own) {
+            targets.extend([vec![own, other], vec![other, own]]);
+        }
+        for targets in targets {
+            let mut chart = Chart::steps(NODES);
+            chart.records[own as usize] = targets.iter().fold(Record::step(), |record, &target| record.to(target));
+            accepts(&chart.bytes(), NODES, 0);
+        }
+    }
+}
+
+#[test]
+fn two_nodes_may_lead_to_one() {
+    let mut chart = Chart::steps(3);
+    chart.records[0] = Record::step().to(1).to(2);
+    chart.records[1] = Record::step().to(1).to(2);
+    accepts(&chart.bytes(), 3, 0);
+}
+
+#[test]
+fn two_arrows_to_one_node_are_told_where_they_are_the_first_fault() {
+    let fault = Record {
+        spare: 1,
+        ..Record::step()
+    };
+    let twins = Record::step().twins(1);
+    for (records, node) in [
+        ([twins, fault, twins], 0),
+        ([fault, twins, twins], 0),
+        ([Record::step(), twins, fault], 1),
+        ([Record::step(), fault, twins], 1),
+        ([Record::step().to(1).to(2), Record::read(0).to(0), twins], 2),
+    ] {
+        says(&Chart::of(records.to_vec()).bytes(), &format!("refused 9 at {node}"));
     }
 }
 

@@ -12,7 +12,7 @@ const RULES: &str = "docs/RULES.md";
 const TRACE: &str = "docs/TRACE.md";
 
 /// How many rules each section has at least: a number belongs to its rule for good.
-const AT_LEAST: [usize; 14] = [4, 8, 4, 7, 3, 7, 9, 2, 6, 3, 18, 9, 3, 4];
+const AT_LEAST: [usize; 14] = [4, 9, 4, 7, 3, 7, 9, 2, 6, 3, 18, 9, 3, 4];
 
 /// All rules, in their order.
 fn rules() -> Vec<Rule> {
@@ -313,7 +313,8 @@ fn each_file_of_definitions_begins_with_its_rules_or_says_that_it_has_none() {
 
 #[test]
 fn what_is_cited_elsewhere_is_a_rule() {
-    let there = numbers();
+    // only a page of docs/ may speak of a rule that has fallen
+    let (there, standing) = (numbers(), BTreeSet::from_iter(standing()));
     let mut elsewhere: Vec<(String, String)> =
         ["tests", "wrapper", "include", "examples", "charts", "docs", "README.md"]
             .iter()
@@ -324,8 +325,11 @@ fn what_is_cited_elsewhere_is_a_rule() {
     }
     let citations: usize = elsewhere.iter().map(|(_, text)| cited(text).len()).sum();
     enough("citations outside of definitions", 40, citations);
-    let faults = elsewhere.iter().flat_map(|(name, text)| faults_of(name, text, &there));
-    no_faults("citations of no rule", faults.collect());
+    let faults = elsewhere.iter().flat_map(|(name, text)| {
+        let is_page = name.starts_with("docs/");
+        faults_of(name, text, if is_page { &there } else { &standing })
+    });
+    no_faults("citations of no rule that stands", faults.collect());
 }
 
 /// The rows of a section of the trace that begin with a rule's number, each with its number.

@@ -1,4 +1,4 @@
-//! The second program: the tool in ordinary Rust, written apart from the proofs, from the paper that the rules (docs/RULES.md) are taken
+//! The second program: the tool in ordinary Rust, written apart from the proofs, from the papers that the rules (docs/RULES.md) are taken
 //! from, so that the two seldom share a mistake. The tests hold the proved program to it, and the measurement times the proved analysis
 //! against it.
 

@@ -43,8 +43,11 @@ impl Record {
             return None;
         }
         let (leading, unused) = targets.split_at(used);
-        let keeps = leading.iter().all(|&target| target < nodes) && unused.iter().all(|&target| target == 0);
-        keeps.then_some(Record {
+        let inside = leading.iter().all(|&target| target < nodes);
+        let clear = unused.iter().all(|&target| target == 0);
+        // two arrows have two targets (rule 2.9)
+        let twins = matches!(leading, [one, other] if one == other);
+        (inside && clear && !twins).then_some(Record {
             address,
             arrows: Arrows { targets, used },
         })

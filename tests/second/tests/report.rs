@@ -60,6 +60,19 @@ fn an_arrow_to_n_gives_9_and_to_n_less_1_passes() {
 }
 
 #[test]
+fn two_arrows_to_one_node_give_9_and_to_two_nodes_pass() {
+    let leading_to = |first, second| {
+        let mut chart = Chart::sample();
+        chart.records[2] = chart.records[2].to(first).to(second);
+        report(&chart.bytes())
+    };
+    for target in 0..3 {
+        assert_eq!(leading_to(target, target), "refused 9 at 2\n");
+    }
+    assert_eq!(leading_to(2, 0), "nodes 3 blocks 1 passes 2\n0 none\n1 unsure\n2 hit\n");
+}
+
+#[test]
 fn an_input_longer_than_the_longest_chart_is_too_long() {
     let longest = Chart::steps(NODES).bytes();
     let begins = format!("nodes {NODES} blocks 0 passes 1\n0 none\n1 unreached\n");

@@ -11,6 +11,7 @@ use compare::settings::{Settings, LEAST};
 use compare::tables::{ALMOST, NOISE, PASSING};
 use compare::tally::Tally;
 use compare::trial::FAULTS;
+use compare::twins::TWINS;
 use compare::walks::{MET, SURE, WALK};
 use second::limits;
 use std::env;
@@ -35,6 +36,7 @@ fn the_archive_and_the_second_program_agree_on_random_charts() {
     if charts.is_none() || tally.charts() >= LEAST {
         expect_answers(&tally);
         expect_charts(&tally);
+        expect_twins(&tally);
         expect_crowds(&tally);
         expect_edges(&tally);
         expect_lent(&tally);
@@ -63,6 +65,14 @@ fn expect_charts(tally: &Tally) {
     tally.expect_each(MET, 1..=4, 50_000);
     tally.expect_each(WALK, 0..=1, 50_000);
     tally.expect(SURE, 10_000);
+}
+
+/// Each is refused where the first broken record is, whether that is the one with two arrows to one node or another.
+fn expect_twins(tally: &Tally) {
+    let [alone, before, behind] = TWINS;
+    tally.expect(alone, 2_500);
+    tally.expect(before, 100);
+    tally.expect(behind, 100);
 }
 
 /// Most charts reach all their nodes; sets are filled and more than filled; one bit tells blocks apart.

@@ -3,6 +3,7 @@
 use charts::{Chart, Record};
 use compare::ask::READ;
 use compare::group::Group;
+use compare::twins::TWINS;
 use second::limits::NODES;
 
 const HIGHEST: u64 = (1 << 32) - 1;
@@ -51,8 +52,9 @@ fn every_record_at_its_boundaries_in_small_charts() {
         sweep(&mut group, nodes);
     }
     let tally = group.end();
-    tally.expect_each(READ, 0..=0, 400);
+    tally.expect_each(READ, 0..=0, 300);
     tally.expect_each(READ, 9..=9, 10_000);
+    tally.expect(TWINS[0], 100);
 }
 
 #[test]
@@ -62,6 +64,39 @@ fn every_record_at_its_boundaries_in_the_largest_chart() {
     let tally = group.end();
     tally.expect_each(READ, 0..=0, 100);
     tally.expect_each(READ, 9..=9, 1_000);
+}
+
+/// How many ways there are to have arrows in a chart of so many nodes: none, one to each, two to each two, in both orders.
+fn ways_to_lead_on(nodes: u64) -> u64 {
+    1 + nodes + nodes * (nodes - 1)
+}
+
+#[test]
+fn every_two_arrows_of_small_charts() {
+    let mut group = Group::of("two arrows");
+    let mut accepted = 0;
+    for nodes in 1..=5 {
+        for place in 0..nodes {
+            for bare in [Record::step(), Record::read(0x20), Record::write(0x20)] {
+                for (outs, first) in (0..4).flat_map(|outs| (0..=nodes).map(move |first| (outs, first))) {
+                    for second in 0..=nodes {
+                        let mut chart = Chart::steps(nodes as usize);
+                        chart.records[place as usize] = Record {
+                            outs,
+                            first,
+                            second,
+                            ..bare
+                        };
+                        group.trial(&chart.bytes());
+                    }
+                }
+                accepted += ways_to_lead_on(nodes);
+            }
+        }
+    }
+    let tally = group.end();
+    assert_eq!(tally.count(READ, 0), accepted);
+    assert_eq!(tally.count(TWINS[0], 0), 3 * (1 + 4 + 9 + 16 + 25));
 }
 
 #[test]

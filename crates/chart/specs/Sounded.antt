@@ -123,7 +123,7 @@ twinArrows =
     ∷ (readThree ends (stepTo 2 0 0) (stepTo 2 1 1) reads (9 ∷ 1 ∷ 0 ∷ []))
     -- a length that is wrong is told before them, too many blocks are not: node 65 brings the 65th, and has two arrows to node 0
     ∷ (readOut (threeNodes (stepTo 2 1 1) ends ends ++ 0x00 ∷ []) reads (8 ∷ 0 ∷ 0 ∷ []))
-    ∷ (readOut (set (manyBlocks 66) 532 0x20) reads (9 ∷ 65 ∷ 0 ∷ []))
+    ∷ (readOut (set (manyBlocks 66) (8 + 8 * 65 + 4) 0x20) reads (9 ∷ 65 ∷ 0 ∷ []))
     -- allowed: no arrow; one to node 0 beside an unused 0, of each kind; one to the node itself
     ∷ (readThree ends ends ends reads (0 ∷ 0 ∷ 0 ∷ []))
     ∷ (readThree (stepTo 1 0 0) (nodeTo 1 1 0 0) (nodeTo 2 1 0 0) reads (0 ∷ 0 ∷ 2 ∷ []))

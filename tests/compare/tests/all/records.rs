@@ -52,9 +52,10 @@ fn every_record_at_its_boundaries_in_small_charts() {
         sweep(&mut group, nodes);
     }
     let tally = group.end();
-    tally.expect_each(READ, 0..=0, 300);
+    // seven kinds with addresses; with 1, 2, 3 and 4 nodes in 1, 2, 3 and 3 places; the ends are 0 twice where there is one node
+    assert_eq!(tally.count(READ, 0), 7 * (8 + 2 * 5 + 3 * 5 + 3 * 5));
+    assert_eq!(tally.count(TWINS[0], 0), 7 * (4 + 2 * 2 + 3 * 2 + 3 * 2));
     tally.expect_each(READ, 9..=9, 10_000);
-    tally.expect(TWINS[0], 100);
 }
 
 #[test]

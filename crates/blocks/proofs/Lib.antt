@@ -1,4 +1,5 @@
 pub mod Search
+pub mod Halving
 pub mod Insertion
 pub mod Placed
 pub mod Shift

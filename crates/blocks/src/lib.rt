@@ -1,16 +1,71 @@
 // Ascending lists of blocks, in arrays that the caller lends: the place of a block, and how many there are when one is put in (rule 3.4).
 // Nothing is refused here: callers keep lists that ascend, and look whether there are more blocks than they have places for.
+ghost use mathlib.Core.Bool.{cond};
 ghost use mathlib.Core.Path.{_≡_};
 ghost use mathlib.Core.List.{_∷_};
 ghost use Prim.Native.Nat.{_+_, _-_, _≤_, _<_};
 ghost use lib.ListN.{length, take, drop};
 ghost use lib.Seq.{paste};
+ghost use lib.Dec.{ltb};
 ghost use Rattle.blocks.specs.Blocks.{placeIn, insert};
 ghost use Rattle.blocks.specs.Listing.{Ascending, Listing, Laid};
 
+// So many blocks are counted in one go; a longer list is halved first.
+const STRETCH: usize = 16;
+
+// As many ones as a block has bits where one block is below the other, else 0: what is borrowed for their difference. Both ways to it are
+// the same instruction, which wraps, so that no jump is left. Of a comparison in a loop the compiler makes a jump, and half of those that a
+// search makes would be guessed wrong.
+fn borrowed(one: u32, other: u32) -> usize
+    ensures { λ r. ⌜ r ≡ cond (ltb one other) 4294967295 0 ⌝ }
+{
+    let from = one as usize;
+    let off = other as usize;
+    let difference = if off <= from {
+        from - off
+    } else {
+        from + (usize::MAX - off) + 1
+    };
+    difference >> 32
+}
+
+// The place of a block that is none of the first `place` of an ascending list, and not behind the `left` after them, a stretch at most: how
+// many of these are below it is counted, and in a block's width, because that is vector code.
+fn counted(blocks: &[u32], place: usize, left: usize, block: u32) -> usize
+    requires { ⌜ (left ≤ 16) × (place + left ≤ length (now blocks)) ⌝ }
+    requires { ⌜ Ascending (place + left) (now blocks) ⌝ }
+    requires { ⌜ place ≤ placeIn (take (place + left) (now blocks)) block ⌝ }
+    ensures { λ r. ⌜ r ≡ placeIn (take (place + left) (now (blocks .entry))) block ⌝ }
+{
+    let mut below = 0u32;
+    for i in 0..left {
+        below += (blocks[place + i] < block) as u32;
+    }
+    place + below as usize
+}
+
+// The place of a block among the first `count` of an ascending list, by halves: it is none of the first `place`, and not behind the `left`
+// after them. Each turn looks at the last block of the larger half of these, passes that half if it is below, and leaves as many as the
+// smaller half has. So `left` is halved whatever is found: 64 blocks have 7 halvings, and two of them lead to a stretch.
+fn halved(blocks: &[u32], count: usize, block: u32) -> usize
+    requires { ⌜ count ≤ length (now blocks) ⌝ }
+    requires { ⌜ Ascending count (now blocks) ⌝ }
+    ensures { λ r. ⌜ r ≡ placeIn (take count (now (blocks .entry))) block ⌝ }
+{
+    let mut place = 0;
+    let mut left = count;
+    while STRETCH < left {
+        let rest = left >> 1;
+        let half = left - rest;
+        place += half & borrowed(blocks[place + half - 1], block);
+        left = rest;
+    }
+    counted(blocks, place, left, block)
+}
+
 // The place of a block among the first `count` of an ascending list: the first that is not below it, or `count`. So many are below it.
-// A block past the last is told at once, since blocks often come in ascending order. Else all are looked at, and counted in a block's
-// width, because that is vector code: it takes less time than to stop at the place.
+// A block past the last is told at once, since blocks often come in ascending order. A list of one stretch is counted without a look at its
+// halves, and apart, so that the compiler can keep it in registers.
 pub fn place_in(blocks: &[u32], count: usize, block: u32) -> usize
     requires { ⌜ count ≤ length (now blocks) ⌝ }
     requires { ⌜ Ascending count (now blocks) ⌝ }
@@ -21,11 +76,10 @@ pub fn place_in(blocks: &[u32], count: usize, block: u32) -> usize
             return count;
         }
     }
-    let mut below = 0u32;
-    for i in 0..count {
-        below += (blocks[i] < block) as u32;
+    if count <= STRETCH {
+        return counted(blocks, 0, count, block);
     }
-    below as usize
+    halved(blocks, count, block)
 }
 
 // Stores `block` at `place`; what stands from there up to `count` moves up by one.

@@ -1,5 +1,6 @@
-//! Three kinds of charts, of any size: each node reads a block, the blocks taking turns, in a cache of four sets of eight ways.
+//! Kinds of charts, of any size: each node reads a block, in a cache of four sets of eight ways.
 
+use charts::random::Random;
 use charts::{Chart, Record};
 
 #[derive(Clone, Copy, Debug)]
@@ -10,22 +11,41 @@ pub enum Kind {
     Looping,
     /// A line that runs against the numbers, and back to its start: a pass carries a change one node far.
     Backward,
+    /// As short, with the blocks in any order.
+    Mixed,
 }
 
 impl Kind {
-    pub const ALL: [Kind; 3] = [Kind::Short, Kind::Looping, Kind::Backward];
+    /// The kinds whose blocks take turns.
+    pub const IN_TURN: [Kind; 3] = [Kind::Short, Kind::Looping, Kind::Backward];
+    /// So many charts are told apart in any order: a processor learns the jumps of one chart by heart.
+    const ORDERS: u64 = 200;
 
     pub fn name(self) -> &'static str {
         match self {
             Kind::Short => "short",
             Kind::Looping => "looping",
             Kind::Backward => "backward",
+            Kind::Mixed => "mixed",
         }
     }
 
-    pub fn chart(self, nodes: usize, blocks: usize) -> Vec<u8> {
+    /// One chart where the blocks take turns, many where they come in any order.
+    pub fn charts(self, nodes: usize, blocks: usize) -> Vec<Vec<u8>> {
+        let Kind::Mixed = self else {
+            return vec![self.chart(nodes, |node| node % blocks)];
+        };
+        (0..Kind::ORDERS)
+            .map(|seed| {
+                let mut random = Random::new(seed);
+                self.chart(nodes, |_| random.below(blocks as u64) as usize)
+            })
+            .collect()
+    }
+
+    fn chart(self, nodes: usize, mut block_of: impl FnMut(usize) -> usize) -> Vec<u8> {
         let records = (0..nodes).map(|node| {
-            let read = Record::read((node % blocks * 16) as u64);
+            let read = Record::read((block_of(node) * 16) as u64);
             self.targets(node, nodes)
                 .into_iter()
                 .fold(read, |read, target| read.to(target as u64))
@@ -39,7 +59,7 @@ impl Kind {
 
     fn targets(self, node: usize, nodes: usize) -> Vec<usize> {
         match self {
-            Kind::Short => (node + 1..nodes).take(2).collect(),
+            Kind::Short | Kind::Mixed => (node + 1..nodes).take(2).collect(),
             Kind::Looping => {
                 let back = [nodes, 64, 16, 4]
                     .into_iter()

@@ -1,11 +1,13 @@
 //! A table of ratios and its picture, or one job alone for a counter of instructions:
 //!
 //!     speed table docs/speed.svg               the table, and the picture into that file
+//!     speed before                             the table of the analysis before a change and now
 //!     speed ours backward 256 64 3             the proved analysis of that chart, three times
 //!     speed second backward 256 64 3           the second program's
 
 use second::lending::Lending;
 use second::limits::PASSES;
+use speed::before::BEFORE;
 use speed::kinds::Kind;
 use speed::measures::{ratio, Case, Measure};
 use speed::plot;
@@ -18,8 +20,9 @@ fn main() {
     let words: Vec<&str> = words.iter().map(String::as_str).collect();
     match words[..] {
         ["table", picture] => table(picture),
+        ["before"] => changed(),
         [whose, kind, nodes, blocks, times] => alone(whose, kind, number(nodes), number(blocks), number(times)),
-        _ => panic!("'table PICTURE', or: ours|second short|looping|backward NODES BLOCKS TIMES"),
+        _ => panic!("'table PICTURE', 'before', or: ours|second short|looping|backward NODES BLOCKS TIMES"),
     }
 }
 
@@ -30,7 +33,7 @@ fn table(picture: &str) {
         .map(|case| {
             let measure = case.measure();
             println!("{}", row(case, &measure));
-            (case, ratio(measure.whole))
+            (case, ratio(measure.whole.best))
         })
         .collect();
     fs::write(picture, plot::svg(&measured)).expect("the picture can be written");
@@ -40,13 +43,29 @@ fn row(case: Case, measure: &Measure) -> String {
     let Case { nodes, blocks, .. } = case;
     let name = case.kind.name();
     let cleared = if case.cleared { "yes" } else { "no" };
-    let [ours, second] = measure.whole;
+    let [ours, second] = measure.whole.best;
     format!(
         "| {name} | {nodes} | {blocks} | {cleared} | {} | {ours:.2} | {second:.2} | {:.2} | {:.2} |",
         measure.passes,
-        ratio(measure.whole),
-        ratio(measure.passes_alone)
+        ratio(measure.whole.best),
+        ratio(measure.passes_alone())
     )
+}
+
+fn changed() {
+    let before = BEFORE.expect("tests/speed/before FOLDER, with the folder of the archive before the change");
+    println!("| chart | nodes | blocks | before, µs | now, µs | now / before | beside the passes: now / before |");
+    println!("|---|---|---|---|---|---|---|");
+    for case in Case::changed() {
+        let measure = case.compare([OURS, before]);
+        let Case { nodes, blocks, .. } = case;
+        let name = case.kind.name();
+        let [now, then] = measure.whole.best;
+        println!(
+            "| {name} | {nodes} | {blocks} | {then:.2} | {now:.2} | {:.3} | {:.3} |",
+            measure.whole.ratio, measure.rest.ratio
+        );
+    }
 }
 
 fn alone(whose: &str, kind: &str, nodes: usize, blocks: usize, times: usize) {
@@ -55,19 +74,19 @@ fn alone(whose: &str, kind: &str, nodes: usize, blocks: usize, times: usize) {
         "second" => SECOND,
         _ => panic!("{whose} is neither ours nor second"),
     };
-    let kind = Kind::ALL
+    let kind = Kind::IN_TURN
         .into_iter()
         .find(|known| known.name() == kind)
         .expect("the kind is short, looping or backward");
-    let chart = kind.chart(nodes, blocks);
+    let charts = kind.charts(nodes, blocks);
     let mut run = Run {
         analysis,
-        chart: &chart,
+        charts: &charts,
         lent: Lending::of(blocks, nodes, 0),
         cleared: false,
     };
     for _ in 0..times {
-        run.once(PASSES);
+        run.once(&charts[0], PASSES);
     }
 }
 

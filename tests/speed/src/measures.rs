@@ -1,8 +1,8 @@
 //! The two analyses measured on one chart.
 
 use crate::kinds::Kind;
-use crate::runs::{Run, OURS, SECOND};
-use crate::timing::best;
+use crate::runs::{Analysis, Run, OURS, SECOND};
+use crate::timing::{best, middle, turns};
 use second::analysis::Analysed;
 use second::lending::Lending;
 use second::limits::{BLOCKS, NODES, PASSES};
@@ -16,60 +16,94 @@ pub struct Case {
     pub cleared: bool,
 }
 
-/// Two times in microseconds: the proved analysis's and the second program's.
+/// The times of two analyses in microseconds.
 pub type Times = [f64; 2];
 
 pub struct Measure {
     pub passes: usize,
-    pub whole: Times,
-    /// The whole less an analysis with allowance 0, which makes no pass.
-    pub passes_alone: Times,
+    pub whole: Readings,
+    /// An analysis with allowance 0, which makes no pass.
+    pub rest: Readings,
+}
+
+/// Two analyses that took turns.
+pub struct Readings {
+    /// The best time of each.
+    pub best: Times,
+    /// The middle ratio of a turn.
+    pub ratio: f64,
+}
+
+impl Measure {
+    pub fn passes_alone(&self) -> Times {
+        [0, 1].map(|whose| self.whole.best[whose] - self.rest.best[whose])
+    }
 }
 
 impl Case {
     /// A chart of 16 nodes has no more than 16 blocks.
     const SIZES: [(usize, usize); 4] = [(NODES, BLOCKS), (NODES, 8), (16, 16), (16, 8)];
 
+    /// The table of the proved analysis and the second program's.
     pub fn all() -> impl Iterator<Item = Case> {
-        Case::SIZES.into_iter().flat_map(|(nodes, blocks)| {
-            Kind::ALL.into_iter().flat_map(move |kind| {
-                [false, true].map(|cleared| Case {
-                    kind,
-                    nodes,
-                    blocks,
-                    cleared,
-                })
+        Case::of(&Kind::IN_TURN).flat_map(|case| [false, true].map(|cleared| Case { cleared, ..case }))
+    }
+
+    /// The table of the proved analysis before a change and after it.
+    pub fn changed() -> impl Iterator<Item = Case> {
+        Case::of(&Kind::IN_TURN).chain(Case::of(&[Kind::Mixed]))
+    }
+
+    fn of(kinds: &'static [Kind]) -> impl Iterator<Item = Case> {
+        Case::SIZES.into_iter().flat_map(move |(nodes, blocks)| {
+            kinds.iter().map(move |&kind| Case {
+                kind,
+                nodes,
+                blocks,
+                cleared: false,
             })
         })
     }
 
-    /// The best times of both, once they agree on the answer and on every buffer.
+    /// The best times of the proved analysis and the second program's.
     pub fn measure(self) -> Measure {
-        let chart = self.kind.chart(self.nodes, self.blocks);
-        let [mut ours, mut second] = [OURS, SECOND].map(|analysis| Run {
+        self.compare([OURS, SECOND])
+    }
+
+    /// The best times of two analyses, once they agree on the answer and on every buffer.
+    pub fn compare(self, analyses: [Analysis; 2]) -> Measure {
+        let charts = self.kind.charts(self.nodes, self.blocks);
+        let [mut one, mut other] = analyses.map(|analysis| Run {
             analysis,
-            chart: &chart,
+            charts: &charts,
             lent: Lending::of(self.blocks, self.nodes, 0),
             cleared: self.cleared,
         });
-        let answer = ours.once(PASSES);
-        assert_eq!(answer, second.once(PASSES));
-        assert_eq!(ours.lent, second.lent);
-        let Analysed::Settled { passes, .. } = answer else {
-            panic!("the chart is not settled: {answer:?}");
+        let mut settled = 0;
+        for chart in &charts {
+            let answer = one.once(chart, PASSES);
+            assert_eq!(answer, other.once(chart, PASSES));
+            assert_eq!(one.lent, other.lent);
+            let Analysed::Settled { passes, .. } = answer else {
+                panic!("the chart is not settled: {answer:?}");
+            };
+            settled = passes;
+        }
+        let mut times = |allowance| {
+            let readings = turns(|| one.timed(allowance), || other.timed(allowance));
+            Readings {
+                best: best(&readings).map(|time| time.as_secs_f64() * 1e6),
+                ratio: middle(&readings),
+            }
         };
-        let mut times =
-            |allowance| best(|| ours.timed(allowance), || second.timed(allowance)).map(|time| time.as_secs_f64() * 1e6);
-        let whole = times(PASSES);
-        let rest = times(0);
         Measure {
-            passes,
-            whole,
-            passes_alone: [whole[0] - rest[0], whole[1] - rest[1]],
+            passes: settled,
+            whole: times(PASSES),
+            rest: times(0),
         }
     }
 }
 
-pub fn ratio([ours, second]: Times) -> f64 {
-    ours / second
+pub fn ratio([one, other]: Times) -> f64 {
+    one / other
 }

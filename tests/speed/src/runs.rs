@@ -1,4 +1,4 @@
-//! One analysis alone, the proved one or the second program's, with a chart and buffers of its own.
+//! One analysis alone, the proved one or the second program's, with charts and buffers of its own.
 
 use crate::boundary;
 use second::analysis::Analysed;
@@ -13,25 +13,28 @@ pub const SECOND: Analysis = Lending::analyse;
 
 pub struct Run<'a> {
     pub analysis: Analysis,
-    pub chart: &'a [u8],
+    pub charts: &'a [Vec<u8>],
     pub lent: Lending,
     /// Whether the caller clears the buffers before each analysis; else they are as the one before left them.
     pub cleared: bool,
 }
 
 impl Run<'_> {
-    /// One analysis that the compiler cannot leave out, and its time. What the caller clears is cleared before the clock is read.
+    /// The time of one analysis, from one of each chart. What the caller clears is cleared before the clock is read.
     pub fn timed(&mut self, allowance: usize) -> Duration {
         if self.cleared {
             clear(&mut self.lent);
         }
         let start = Instant::now();
-        self.once(allowance);
-        start.elapsed()
+        for chart in self.charts {
+            self.once(chart, allowance);
+        }
+        start.elapsed() / self.charts.len() as u32
     }
 
-    pub fn once(&mut self, allowance: usize) -> Analysed {
-        let (lent, chart) = (black_box(&mut self.lent), black_box(self.chart));
+    /// One analysis that the compiler cannot leave out.
+    pub fn once(&mut self, chart: &[u8], allowance: usize) -> Analysed {
+        let (lent, chart) = (black_box(&mut self.lent), black_box(chart));
         black_box((self.analysis)(lent, chart, black_box(allowance)))
     }
 }

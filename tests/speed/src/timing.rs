@@ -5,18 +5,36 @@ const READING: Duration = Duration::from_micros(500);
 const READINGS: usize = 20;
 const BUDGET: Duration = Duration::from_secs(1);
 
-/// The best reading of each of two jobs that tell their own time. They take turns, so that what else the machine does falls on both.
-pub fn best(mut one: impl FnMut() -> Duration, mut other: impl FnMut() -> Duration) -> [Duration; 2] {
+/// The readings of two jobs that tell their own time. They take turns, so that what else the machine does falls on both.
+pub fn turns(mut one: impl FnMut() -> Duration, mut other: impl FnMut() -> Duration) -> Vec<[Duration; 2]> {
     let times = repeats(&mut one).min(repeats(&mut other));
-    let mut best = [Duration::MAX; 2];
+    let mut readings = Vec::new();
     let start = Instant::now();
-    let mut readings = 0;
-    while readings < READINGS || start.elapsed() < BUDGET {
-        best[0] = best[0].min(reading(&mut one, times));
-        best[1] = best[1].min(reading(&mut other, times));
-        readings += 1;
+    while readings.len() < READINGS || start.elapsed() < BUDGET {
+        readings.push([reading(&mut one, times), reading(&mut other, times)]);
     }
-    best
+    readings
+}
+
+/// The best reading of each.
+pub fn best(readings: &[[Duration; 2]]) -> [Duration; 2] {
+    [0, 1].map(|whose| {
+        readings
+            .iter()
+            .map(|turn| turn[whose])
+            .min()
+            .expect("there are readings")
+    })
+}
+
+/// How many times the other's time the one takes: the middle one of all turns, so that a slow stretch of the machine counts for little.
+pub fn middle(readings: &[[Duration; 2]]) -> f64 {
+    let mut ratios: Vec<f64> = readings
+        .iter()
+        .map(|[one, other]| one.as_secs_f64() / other.as_secs_f64())
+        .collect();
+    ratios.sort_by(f64::total_cmp);
+    ratios[ratios.len() / 2]
 }
 
 /// How often a job is to be done for one reading.

@@ -2,6 +2,7 @@
 
 use charts::random_blocks::of_blocks;
 use charts::random_charts::of_nodes;
+use charts::Chart;
 use compare::ask::READ;
 use compare::features::{BLOCKS, NODES};
 use compare::group::Group;
@@ -35,4 +36,26 @@ fn every_number_of_blocks() {
     let tally = group.end();
     tally.expect_each(BLOCKS, 0..=limits::BLOCKS, 3);
     tally.expect_each(READ, 10..=10, 3 * 26);
+}
+
+/// The last node's block is looked for among all the others: it is each of them in turn, and each that could stand between two of them,
+/// before the first or behind the last. They are far apart, so that their differences are large.
+#[test]
+fn every_place_in_every_list() {
+    let mut group = Group::of("every place in every list");
+    let apart = u64::from(u32::MAX) / (2 * MOST + 1);
+    for blocks in 0..=MOST {
+        for last in 0..=2 * blocks {
+            let mut numbers: Vec<u64> = (0..blocks).map(|block| 2 * block + 1).collect();
+            group.random.mix(&mut numbers);
+            numbers.push(last);
+            let addresses: Vec<u64> = numbers.into_iter().map(|number| number * apart).collect();
+            group.trial(&Chart::straight(&addresses).bytes());
+        }
+    }
+    let tally = group.end();
+    for blocks in 1..=limits::BLOCKS {
+        tally.expect_each(BLOCKS, blocks..=blocks, 2 * blocks as u64);
+    }
+    tally.expect_each(READ, 10..=10, MOST + 1);
 }

@@ -10,7 +10,7 @@ use lib.Bits.{bitAnd, and-mask, and-zero-r}
 use lib.Dec.{ltb}
 use Rattle.lists.proofs.Orders.{below-or}
 
--- Of the places up to one, how many are before another: one more where it is itself.
+-- Of the first k places min k p are before p, and one more is if k is.
 pub min-turn : (k p : ℕ) → min (k + 1) p ≡ min k p + boolByte (ltb k p)
 min-turn k p = ⊎-elim (λ (h : k < p). rw (lt-ltb k p h) (omega arith)) (λ (h : p ≤ k). rw (le-ltb k p h) (omega arith)) (below-or k p)
 
@@ -24,21 +24,21 @@ same-first p q k h j same = ⊎-elim below (λ (least : q ≤ p). ⊎-elim (abov
     above : q ≤ p → q < p → p ≡ q
     above least less = absurd (omega (arith, ltb-true q q (sym (same q (omega arith)) ∙ lt-ltb q p less)))
 
--- Where a search by halves stands in a list of `count`: the place p is none of the first `place`, and not behind the `left` after them.
-pub record Narrowed (count place left p : ℕ) : Type 0 where
+-- Where a search by halves stands in a list of `count`: the place p is at least `place` and at most `place + left`.
+pub record Between (count place left p : ℕ) : Type 0 where
   pub passed : place ≤ p
   pub kept : p ≤ place + left
   pub inside : place + left ≤ count
 
 -- A turn of it: the larger half is passed if its last place is before p, and as many are left as the smaller half has.
-pub narrowed-again : (count place left p middle : ℕ) → Narrowed count place left p → 0 < left → middle + 1 ≡ place + (left - left / 2) → Narrowed count (place + cond (ltb middle p) (left - left / 2) 0) (left / 2) p
-narrowed-again count place left p middle so some last =
+pub between-again : (count place left p middle : ℕ) → Between count place left p → 0 < left → middle + 1 ≡ place + (left - left / 2) → Between count (place + cond (ltb middle p) (left - left / 2) 0) (left / 2) p
+between-again count place left p middle so some ends =
     ⊎-elim
     (λ (h : middle < p). rw (lt-ltb middle p h) (omega (arith, so)))
     (λ (h : p ≤ middle). rw (le-ltb middle p h) (omega (arith, so)))
     (below-or middle p)
 
--- A number within a width of ones, and within none.
+-- A number below 2 ^ 32 within 32 ones is the number, and within none it is 0.
 pub masked : (n : ℕ) (t : Bool) → n < 4294967296 → bitAnd n (cond t 4294967295 0) ≡ cond t n 0
 masked n true h = and-mask n 32 ∙ omega arith
 masked n false h = and-zero-r n
@@ -68,7 +68,7 @@ unfolding halvings halvingsIn
 halvings-turn zero h = absurd (omega arith)
 halvings-turn (suc n) h = ap suc (room-enough n (suc n / 2) (suc n / 2) (omega arith) (omega arith))
 
--- So many at most: k for a number below the k-th power of two, and 7 for 64.
+-- For the reader: there are at most k for a number below the k-th power of two, and 7 for 64.
 pub halvings-below : (k n : ℕ) → n < 2 ^ k → halvings n ≤ k
 unfolding halvings halvingsIn
 halvings-below zero n h = let e : n ≡ 0 = omega arith in rw e zero-le

@@ -1,4 +1,4 @@
--- A block's place in an ascending list: one law, and what a search by halves and a count make of it.
+-- A block's place in an ascending list: one law of where it is, and what a search by halves and a count make of it.
 use mathlib.Core.Bool.{Bool, true, false, cond}
 use mathlib.Core.List.{List, [], _∷_}
 use mathlib.Core.Logic.{⊎-elim}
@@ -15,7 +15,7 @@ use Rattle.lists.specs.Choice.{firstFrom}
 use Rattle.blocks.specs.Blocks.{placeIn}
 use Rattle.blocks.specs.Listing.{Ascending}
 use Rattle.lists.proofs.Orders.{below-or}
-use Rattle.blocks.proofs.Halving.{min-turn, same-first, Narrowed, narrowed-again, masked}
+use Rattle.blocks.proofs.Halving.{min-turn, same-first, Between, between-again, masked}
 
 firstFrom-suc : (k n : ℕ) (test : ℕ → Bool) → firstFrom (suc k) n test ≡ suc (firstFrom k n (λ i. test (suc i)))
 firstFrom-suc k zero test = refl
@@ -68,7 +68,7 @@ pub place-within : (l : List ℕ) (count b : ℕ) → count ≤ length l → pla
 place-within l count b fits = omega (arith, place-le b (take count l), length-take-le count l fits)
 
 module _ (l : List ℕ) (count b : ℕ) (fits : count ≤ length l) (ascending : Ascending count l) where
-  -- A block is no less than its place: so there are no more of them than there are numbers in a block's width.
+  -- A block is no less than its place: so there are at most 2 ^ 32 of them.
   pub climbs : (k : ℕ) → k < count → k ≤ getD l k 0
   climbs zero h = omega arith
   climbs (suc k) h = let before = climbs k (omega arith) in omega (arith, ascending k (suc k) (omega arith) h)
@@ -84,13 +84,13 @@ module _ (l : List ℕ) (count b : ℕ) (fits : count ≤ length l) (ascending :
   count-turn k h = min-turn k (placeIn (take count l) b) ∙ ap (λ (t : Bool). min k (placeIn (take count l) b) + boolByte t) (sym (below-place l count b fits ascending k h))
 
   -- A turn of a search by halves, which looks at the block in the middle.
-  pub search-turn : (place left middle mask : ℕ) → mask ≡ cond (ltb (getD l middle 0) b) 4294967295 0 → Narrowed count place left (placeIn (take count l) b) → 0 < left → middle + 1 ≡ place + (left - left / 2) → left - left / 2 < 4294967296 → Narrowed count (place + bitAnd (left - left / 2) mask) (left / 2) (placeIn (take count l) b)
-  search-turn place left middle mask looked so some last narrow =
+  pub search-turn : (place left middle mask : ℕ) → mask ≡ cond (ltb (getD l middle 0) b) 4294967295 0 → Between count place left (placeIn (take count l) b) → 0 < left → middle + 1 ≡ place + (left - left / 2) → left - left / 2 < 4294967296 → Between count (place + bitAnd (left - left / 2) mask) (left / 2) (placeIn (take count l) b)
+  search-turn place left middle mask looked so some ends short =
       let step : bitAnd (left - left / 2) mask ≡ cond (ltb middle (placeIn (take count l) b)) (left - left / 2) 0 =
-      ap (bitAnd (left - left / 2)) (looked ∙ ap (λ (t : Bool). cond t 4294967295 0) (below-place l count b fits ascending middle (omega (arith, so)))) ∙ masked (left - left / 2) (ltb middle (placeIn (take count l) b)) narrow
-      in rw step (narrowed-again count place left (placeIn (take count l) b) middle so some last)
+      ap (bitAnd (left - left / 2)) (looked ∙ ap (λ (t : Bool). cond t 4294967295 0) (below-place l count b fits ascending middle (omega (arith, so)))) ∙ masked (left - left / 2) (ltb middle (placeIn (take count l) b)) short
+      in rw step (between-again count place left (placeIn (take count l) b) middle so some ends)
 
-  -- Fewer blocks of the list, if the place is not behind them, have the same.
+  -- The first k of the list have the same place, if it is at most k.
   pub same-place : (k : ℕ) → k ≤ count → placeIn (take count l) b ≤ k → placeIn (take k l) b ≡ placeIn (take count l) b
   same-place k h p =
       same-first (placeIn (take k l) b) (placeIn (take count l) b) k (place-within l k b (omega arith)) p

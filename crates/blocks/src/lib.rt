@@ -13,10 +13,10 @@ ghost use Rattle.blocks.specs.Listing.{Ascending, Listing, Laid};
 // So many blocks are counted in one go; a longer list is halved first.
 const STRETCH: usize = 16;
 
-// As many ones as a block has bits where one block is below the other, else 0: what is borrowed for their difference. Both ways to it are
-// the same instruction, which wraps, so that no jump is left. Of a comparison in a loop the compiler makes a jump, and half of those that a
-// search makes would be guessed wrong.
-fn borrowed(one: u32, other: u32) -> usize
+// 32 ones where `one` is below `other`, else 0: what is borrowed for their difference. Both ways to the difference are the same
+// instruction, which wraps, so no jump is left. Where the search chooses by a comparison which half to pass, the compiler makes a jump of
+// it, and nobody can guess where a search goes.
+fn below_mask(one: u32, other: u32) -> usize
     ensures { λ r. ⌜ r ≡ cond (ltb one other) 4294967295 0 ⌝ }
 {
     let from = one as usize;
@@ -29,9 +29,9 @@ fn borrowed(one: u32, other: u32) -> usize
     difference >> 32
 }
 
-// The place of a block that is none of the first `place` of an ascending list, and not behind the `left` after them, a stretch at most: how
-// many of these are below it is counted, and in a block's width, because that is vector code.
-fn counted(blocks: &[u32], place: usize, left: usize, block: u32) -> usize
+// The place of a block among the first `place + left` of an ascending list, where it is known to be at least `place`, and `left` to be a
+// stretch at most: how many of the last `left` are below it is counted, and in a block's width, because that is vector code.
+fn place_by_count(blocks: &[u32], place: usize, left: usize, block: u32) -> usize
     requires { ⌜ (left ≤ 16) × (place + left ≤ length (now blocks)) ⌝ }
     requires { ⌜ Ascending (place + left) (now blocks) ⌝ }
     requires { ⌜ place ≤ placeIn (take (place + left) (now blocks)) block ⌝ }
@@ -44,10 +44,10 @@ fn counted(blocks: &[u32], place: usize, left: usize, block: u32) -> usize
     place + below as usize
 }
 
-// The place of a block among the first `count` of an ascending list, by halves: it is none of the first `place`, and not behind the `left`
-// after them. Each turn looks at the last block of the larger half of these, passes that half if it is below, and leaves as many as the
-// smaller half has. So `left` is halved whatever is found: 64 blocks have 7 halvings, and two of them lead to a stretch.
-fn halved(blocks: &[u32], count: usize, block: u32) -> usize
+// The place of a block among the first `count` of an ascending list, by halves: it is at least `place` and at most `place + left`. Each turn
+// looks at the last block of the larger half of the `left`, passes that half if it is below, and leaves as many as the smaller half has.
+// So `left` is halved whatever is found: 64 blocks have 7 halvings, and two of them lead to a stretch.
+fn place_by_halves(blocks: &[u32], count: usize, block: u32) -> usize
     requires { ⌜ count ≤ length (now blocks) ⌝ }
     requires { ⌜ Ascending count (now blocks) ⌝ }
     ensures { λ r. ⌜ r ≡ placeIn (take count (now (blocks .entry))) block ⌝ }
@@ -57,15 +57,15 @@ fn halved(blocks: &[u32], count: usize, block: u32) -> usize
     while STRETCH < left {
         let rest = left >> 1;
         let half = left - rest;
-        place += half & borrowed(blocks[place + half - 1], block);
+        place += half & below_mask(blocks[place + half - 1], block);
         left = rest;
     }
-    counted(blocks, place, left, block)
+    place_by_count(blocks, place, left, block)
 }
 
 // The place of a block among the first `count` of an ascending list: the first that is not below it, or `count`. So many are below it.
-// A block past the last is told at once, since blocks often come in ascending order. A list of one stretch is counted without a look at its
-// halves, and apart, so that the compiler can keep it in registers.
+// A block past the last is told at once, since blocks often come in ascending order. A list of one stretch is counted by a call of its own,
+// so that the compiler can keep it in registers.
 pub fn place_in(blocks: &[u32], count: usize, block: u32) -> usize
     requires { ⌜ count ≤ length (now blocks) ⌝ }
     requires { ⌜ Ascending count (now blocks) ⌝ }
@@ -77,9 +77,9 @@ pub fn place_in(blocks: &[u32], count: usize, block: u32) -> usize
         }
     }
     if count <= STRETCH {
-        return counted(blocks, 0, count, block);
+        return place_by_count(blocks, 0, count, block);
     }
-    halved(blocks, count, block)
+    place_by_halves(blocks, count, block)
 }
 
 // Stores `block` at `place`; what stands from there up to `count` moves up by one.

@@ -18,7 +18,7 @@ pub enum Kind {
 impl Kind {
     /// The kinds whose blocks take turns.
     pub const IN_TURN: [Kind; 3] = [Kind::Short, Kind::Looping, Kind::Backward];
-    /// So many charts are told apart in any order: a processor learns the jumps of one chart by heart.
+    /// How many charts with blocks in any order there are: of one alone a processor learns the jumps by heart.
     const ORDERS: u64 = 200;
 
     pub fn name(self) -> &'static str {

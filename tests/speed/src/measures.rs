@@ -1,4 +1,4 @@
-//! The two analyses measured on one chart.
+//! Two analyses measured on the same charts.
 
 use crate::kinds::Kind;
 use crate::runs::{Analysis, Run, OURS, SECOND};

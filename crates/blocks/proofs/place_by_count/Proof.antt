@@ -5,8 +5,8 @@ use native.Mathlib.Omega.{arith}
 use lib.ListN.{take}
 use Rattle.blocks.specs.Blocks.{placeIn}
 use Rattle.blocks.proofs.Search.{count-turn, place-within}
-use Rattle.blocks.proofs.counted.Statement.{statement}
-use Rattle.blocks.proofs.counted.Tie as tie
+use Rattle.blocks.proofs.place_by_count.Statement.{statement}
+use Rattle.blocks.proofs.place_by_count.Tie as tie
 
 abbrev Inv-loop : tie.InvT-loop
 Inv-loop blocks place left block below₀ i₀ below i = (i ≤ left) × (place + below ≡ min (place + i) (placeIn (take (place + left) blocks) block))
@@ -60,5 +60,5 @@ returns c =
     let s = c .before .before in
     omega (arith, place-within (s .args .blocks .now) (s .args .place + s .args .left) (s .args .block) (s .pre .0 .1))
 
-pub counted-spec : {M : Type 1} → statement M
-counted-spec = tie.close (tie.spec Inv-loop μ-loop loop-holds add-below mul-below shared-slice-read-below cast-below add-below-2 add-i loop-less loop-again cast-result add-result returns)
+pub place-by-count-spec : {M : Type 1} → statement M
+place-by-count-spec = tie.close (tie.spec Inv-loop μ-loop loop-holds add-below mul-below shared-slice-read-below cast-below add-below-2 add-i loop-less loop-again cast-result add-result returns)

@@ -34,7 +34,7 @@ extern "C" {
 
 /* Limits: what is enough for every chart. */
 enum {
-    VEILBUZZ_MOST_NODES = 256,
+    VEILBUZZ_MOST_NODES = 1024,
     VEILBUZZ_MOST_BLOCKS = 64,
     VEILBUZZ_MOST_WAYS = 8,
     VEILBUZZ_MOST_AGES = VEILBUZZ_MOST_NODES * VEILBUZZ_MOST_BLOCKS,

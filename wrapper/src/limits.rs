@@ -1,5 +1,5 @@
 /// The most nodes of a chart.
-pub const NODES: usize = 256;
+pub const NODES: usize = 1024;
 
 /// The most blocks of a chart.
 pub const BLOCKS: usize = 64;

@@ -9,7 +9,7 @@ use Rattle.chart.specs.Layout.{chartLength}
 
 -- Rule 1.4: the most nodes of a chart.
 abbrev pub mostNodes : ℕ
-mostNodes = 256
+mostNodes = 1024
 
 -- Rule 1.4: the most blocks of a chart.
 abbrev pub mostBlocks : ℕ
@@ -19,7 +19,7 @@ mostBlocks = 64
 abbrev pub mostWays : ℕ
 mostWays = 8
 
--- Rules 1.3 and 1.4: how long the largest chart is, 2,056 bytes.
+-- Rules 1.3 and 1.4: how long the largest chart is.
 abbrev pub longestChart : ℕ
 longestChart = chartLength mostNodes
 
@@ -27,7 +27,7 @@ longestChart = chartLength mostNodes
 abbrev pub passesFor : ℕ → ℕ → ℕ → ℕ
 passesFor nodes blocks ways = nodes * (1 + 2 * blocks * ways) + 1
 
--- Rules 1.4 and 9.6: those that are enough for every chart, 262,401.
+-- Rules 1.4 and 9.6: those that are enough for every chart.
 abbrev pub allPasses : ℕ
 allPasses = passesFor mostNodes mostBlocks mostWays
 

@@ -1,6 +1,6 @@
 -- Soundings of the reader and of what it reads by: a header and a record in which no two fields can change places unseen (they are no chart's:
--- entry and arrows are not below N), a bare step, a read and a write, the limits of N and of the blocks from both sides (rules 1.2 and 3.4), two
--- arrows to one node, and what looks alike and is allowed (rule 2.9).
+-- entry and arrows are not below N), a bare step, a read and a write, the limits of N, with the entry there, and of the blocks from both sides (rules
+-- 1.2, 1.4, 3.4, 11.5 and 11.6), two arrows to one node, and what looks alike and is allowed (rule 2.9).
 -- Nothing here is a rule of the tool: these are examples, and `sounded` in proofs/Sounded.antt holds the definitions to them.
 use Prim.Native.Nat.{ℕ, _+_, _*_, _-_, _/_, _%_}
 use mathlib.Core.Bool.{cond}
@@ -15,7 +15,7 @@ use Rattle.chart.specs.declared.records.Record.the-variants.{Step, Refer
 use Rattle.chart.specs.declared.records.Node.{Node}
 use Rattle.chart.specs.declared.headers.Header.{Header}
 use Rattle.chart.specs.Layout.{wordAt}
-use Rattle.chart.specs.Header.{startCode, headerNumbers, headerIn}
+use Rattle.chart.specs.Header.{startCode, headerNumbers, headerIn, readHeaderSays}
 use Rattle.chart.specs.Record.{Touch, recordFields, recordKeeps, arrowsOf, touchesOf}
 use Rattle.chart.specs.Chart.{nodeAt}
 use Rattle.chart.specs.Reading.{readSays}
@@ -62,15 +62,23 @@ threeKinds =
 abbrev pub longLines : Geometry
 longLines = record { line = 8; sets = 3; ways = 6 }
 
+-- Each bit of a field of twelve alone, and all of them.
+abbrev pub twelveBits : List ℕ
+twelveBits = 1 ∷ 2 ∷ 4 ∷ 8 ∷ 16 ∷ 32 ∷ 64 ∷ 128 ∷ 256 ∷ 512 ∷ 1024 ∷ 2048 ∷ 4095 ∷ []
+
+-- A header alone, of so many nodes and with this entry.
+abbrev pub headerWith : ℕ → ℕ → List ℕ
+headerWith nodes entry = 0x01 ∷ 0x20 ∷ 0x20 ∷ 0x00 ∷ (nodes / 16) ∷ (nodes % 16 * 16 + entry / 256) ∷ (entry % 256) ∷ 0x00 ∷ []
+
+-- The same with entry 0.
+abbrev pub headerAlone : ℕ → List ℕ
+headerAlone nodes = headerWith nodes 0
+
 -- So many nodes without arrows; node 0 reads block 0, node 1 too, and node n block n - 1.
 abbrev pub manyBlocks : ℕ → List ℕ
 manyBlocks nodes =
-    0x01 ∷ 0x20 ∷ 0x20 ∷ 0x00 ∷ (nodes / 16) ∷ (nodes % 16 * 16) ∷ 0x00 ∷ 0x00
-    ∷ joined (listOf nodes (λ n. 0x40 ∷ 0x00 ∷ 0x00 ∷ (n - 1) ∷ 0x00 ∷ 0x00 ∷ 0x00 ∷ 0x00 ∷ []))
-
--- A header alone, of so many nodes.
-abbrev pub headerAlone : ℕ → List ℕ
-headerAlone nodes = 0x01 ∷ 0x20 ∷ 0x20 ∷ 0x00 ∷ (nodes / 16) ∷ (nodes % 16 * 16) ∷ 0x00 ∷ 0x00 ∷ []
+    headerAlone nodes
+    ++ joined (listOf nodes (λ n. 0x40 ∷ 0x00 ∷ 0x00 ∷ (n - 1) ∷ 0x00 ∷ 0x00 ∷ 0x00 ∷ 0x00 ∷ []))
 
 -- A bare step (0), a read of 0x10 (1) or a write of 0x20 (2), with so many arrows, and with these numbers in the fields of the two targets.
 abbrev pub nodeTo : ℕ → ℕ → ℕ → ℕ → List ℕ
@@ -101,10 +109,6 @@ readFork before first second = readOut (headerAlone (before + 1) ++ replicate (8
 abbrev pub forkKeeps : ℕ → ℕ → ℕ
 forkKeeps first second = cond (recordKeeps 4096 (recordFields (wordAt (stepTo 2 first second) 0))) 1 0
 
--- Each bit of a target alone, and all of them.
-abbrev pub targets : List ℕ
-targets = 1 ∷ 2 ∷ 4 ∷ 8 ∷ 16 ∷ 32 ∷ 64 ∷ 128 ∷ 256 ∷ 512 ∷ 1024 ∷ 2048 ∷ 4095 ∷ []
-
 abbrev pub twinArrows : List Sounding
 twinArrows =
     -- two arrows to node 1 are refused at the node that they lead out of, of each kind, and at node 1 itself
@@ -134,8 +138,8 @@ twinArrows =
     ∷ (readFork 3 3 0 reads (0 ∷ 0 ∷ 0 ∷ []))
     ∷ (readFork 17 1 17 reads (0 ∷ 0 ∷ 0 ∷ []))
     -- every bit of a target counts: none makes two of them alike, and none makes one differ from itself
-    ∷ (map (forkKeeps 0) targets reads replicate 13 1)
-    ∷ (map (λ target. forkKeeps target target) targets reads replicate 13 0)
+    ∷ (map (forkKeeps 0) twelveBits reads replicate 13 1)
+    ∷ (map (λ target. forkKeeps target target) twelveBits reads replicate 13 0)
     ∷ []
 
 abbrev pub chartFields : List Sounding
@@ -151,14 +155,42 @@ chartFields =
     ∷ (touchesOut (touchesOf longLines (nodeAt threeKinds 1 .what)) reads (2 ∷ 0xDEADBE ∷ []))
     ∷ (touchesOut (touchesOf longLines (nodeAt threeKinds 2 .what)) reads [])
     ∷ (arrowsOf (nodeAt threeKinds 1 .targets) reads (0x123 ∷ 0x456 ∷ []))
-    -- 256 nodes are not too many, and so it is the length that is wrong; 257 are, and so is none
-    ∷ (readOut (headerAlone 256) reads (8 ∷ 0 ∷ 0 ∷ []))
-    ∷ (readOut (headerAlone 257) reads (5 ∷ 0 ∷ 0 ∷ []))
+    ∷ []
+
+-- The number that the reader says of so many nodes, and of 1,024 nodes with this entry, where their records are missing.
+abbrev pub numberFor : ℕ → ℕ
+numberFor nodes = readSays (headerAlone nodes) .number
+
+abbrev pub numberForEntry : ℕ → ℕ
+numberForEntry entry = readSays (headerWith 1024 entry) .number
+
+-- How many nodes a chart may have, from both sides. With its records missing, a header that is right has the wrong length, refusal 8.
+abbrev pub nodeCounts : List Sounding
+nodeCounts =
+    -- 1,024 nodes are not too many; 1,025 are, and so is none
+    (readOut (headerAlone 1024) reads (8 ∷ 0 ∷ 0 ∷ []))
+    ∷ (readOut (headerAlone 1025) reads (5 ∷ 0 ∷ 0 ∷ []))
     ∷ (readOut (headerAlone 0) reads (5 ∷ 0 ∷ 0 ∷ []))
+    -- fewer: each lower bit alone, 257 and 900, and all lower bits
+    ∷ (map numberFor (1 ∷ 2 ∷ 4 ∷ 8 ∷ 16 ∷ 32 ∷ 64 ∷ 128 ∷ 256 ∷ 512 ∷ 257 ∷ 900 ∷ 1023 ∷ []) reads replicate 13 8)
+    -- more: each lower bit beside the limit's own, and all of them; the one bit above it, alone and beside it; and the most that the field can hold
+    ∷ (map numberFor (1025 ∷ 1026 ∷ 1028 ∷ 1032 ∷ 1040 ∷ 1056 ∷ 1088 ∷ 1152 ∷ 1280 ∷ 1536 ∷ 2047 ∷ 2048 ∷ 3072 ∷ 4095 ∷ []) reads replicate 14 5)
+    -- every bit of N and of the entry is read
+    ∷ (map (λ nodes. headerIn (headerAlone nodes) .nodes) twelveBits reads twelveBits)
+    ∷ (map (λ entry. headerIn (headerWith 1024 entry) .entry) twelveBits reads twelveBits)
+    -- entries of 1,024 nodes: each lower bit alone, and all of them; then the first that is none, and others above it
+    ∷ (map numberForEntry (1 ∷ 2 ∷ 4 ∷ 8 ∷ 16 ∷ 32 ∷ 64 ∷ 128 ∷ 256 ∷ 512 ∷ 1023 ∷ []) reads replicate 11 8)
+    ∷ (map numberForEntry (1024 ∷ 1025 ∷ 1536 ∷ 2047 ∷ 2048 ∷ 3072 ∷ 4095 ∷ []) reads replicate 7 6)
+    -- entry 1,025 of 1,025 nodes, which are refused before it
+    ∷ (readOut (headerWith 1025 1025) reads (5 ∷ 0 ∷ 0 ∷ []))
+    -- with all their records, bare steps: of 1,024 the header is accepted (to read so many records takes the prover too many steps), 1,025 are refused
+    ∷ (readHeaderSays (headerAlone 1024 ++ replicate 8192 0x00) .header reads (2 ∷ 0 ∷ 2 ∷ 0 ∷ 1024 ∷ 0 ∷ []))
+    ∷ (readOut (headerAlone 1025 ++ replicate 8200 0x00) reads (5 ∷ 0 ∷ 0 ∷ []))
     ∷ []
 
 pub record ChartSounded : Type 0 where
   pub fields-hold : Hold chartFields
+  pub counts-hold : Hold nodeCounts
   pub twins-hold : Hold twinArrows
   pub header-whole : (header : Header)
       → headerNumbers header ≡ header .geometry .line ∷ header .geometry .sets ∷ header .geometry .ways ∷ startCode (header .start) ∷ header .nodes ∷ header .entry ∷ []

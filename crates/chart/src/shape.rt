@@ -12,7 +12,7 @@ pub struct Geometry {
 
 impl Geometry {
     // The most nodes of a chart, blocks of a chart and ways of a set.
-    pub const NODES: usize = 256;
+    pub const NODES: usize = 1024;
 
     pub const BLOCKS: usize = 64;
 

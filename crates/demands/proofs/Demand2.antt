@@ -31,6 +31,7 @@ use Rattle.ages.proofs.Settled.{settles-within, settled-tightest, settled-passe
 use Rattle.analysis.specs.declared.Analysed.the-variants.{Settled, Refused}
 use Rattle.analysis.specs.Analysis.{Buffers, Left, buffersShort, filledBy, tableIn, analysed}
 use Rattle.report.specs.Report.{taken, zeroBuffers}
+use Rattle.report.specs.Ending.{refusedBy, refuses}
 use Rattle.demands.specs.Demand2.{ShapeSaid, Settles, Demand2}
 use Rattle.demands.proofs.Refusals.{reading-refusals}
 use Rattle.demands.proofs.Checking.{checker-yes, yes-checker}
@@ -161,6 +162,10 @@ program-enough bytes chart read =
     settles-enough bytes chart allPasses (zeroBuffers mostNodes mostBlocks) read (zeros-room chart mostNodes mostBlocks nodes few)
     (passes-grow (chart .header .nodes) mostNodes (blockCount chart) mostBlocks (chart .header .geometry .ways) mostWays nodes few (accepted-ways bytes chart read .1))
 
+program-accepts : (input : List ℕ) (chart : Chart) → readChart (taken input) ≡ accepted chart → refuses input ≡ false
+unfolding refuses
+program-accepts input chart read = ap refusedBy (program-enough (taken input) chart read .1)
+
 -- ---- the demand
 
 pub demand2 : Demand2
@@ -178,5 +183,6 @@ demand2 =
           yes-checker bytes (found .0) (tableIn (analysed bytes allowance lent .buffers)) (found .1) (settled-settles bytes (found .0) allowance passes blocks lent (found .1) e .table-passes);
       enough = settles-enough;
       program-settles = λ input. program-enough (taken input);
+      program-accepts = program-accepts;
       agree = settled-agree;
     }

@@ -44,10 +44,10 @@ corners =
     -- its node 1 reads; with kind 2 it writes
     ∷ (touchesOut (touches (chartIn loopChart) 1) reads (1 ∷ 0 ∷ []))
     ∷ (touchesOut (touches (chartIn (set loopChart 16 0x80)) 1) reads (2 ∷ 0 ∷ []))
-    -- "refused 9 at 2", the words of classes 0 and 2, and a number of six digits
+    -- "refused 9 at 2", the words of classes 0 and 2, and a number of seven digits
     ∷ (report (set loopChart 24 0xC0) reads (114 ∷ 101 ∷ 102 ∷ 117 ∷ 115 ∷ 101 ∷ 100 ∷ 32 ∷ 57 ∷ 32 ∷ 97 ∷ 116 ∷ 32 ∷ 50 ∷ 10 ∷ []))
     ∷ (joined (map classWord (0 ∷ 2 ∷ [])) reads (117 ∷ 110 ∷ 114 ∷ 101 ∷ 97 ∷ 99 ∷ 104 ∷ 101 ∷ 100 ∷ 109 ∷ 105 ∷ 115 ∷ 115 ∷ []))
-    ∷ (decimal 262401 reads (50 ∷ 54 ∷ 50 ∷ 52 ∷ 48 ∷ 49 ∷ []))
+    ∷ (decimal 1230456 reads (49 ∷ 50 ∷ 51 ∷ 48 ∷ 52 ∷ 53 ∷ 54 ∷ []))
     -- the place of refusal 10
     ∷ ((placeOf (TooManyBlocks 65) ∷ []) reads (65 ∷ []))
     ∷ []

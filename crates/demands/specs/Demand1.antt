@@ -1,8 +1,8 @@
 -- Demand 1, as those who ordered the tool put it: "Any bytes and any buffer lengths get an answer or a numbered refusal. What a refusal
 -- returns and leaves behind, and when each is given, is written down."
 -- The definitions answer for every input whatever; this is what they say of each refusal of the reader, of the header alone, of the analysis, of the
--- checker and of the totals: rules 3.4, 11.0 to 11.17, 12.1, 12.3 and 12.5 to 12.8. Proved as `demand1` in proofs/Demand1.antt.
-use Prim.Native.Nat.{ℕ, _≤_, _<_}
+-- checker and of the totals: rules 3.4, 11.0 to 11.17, 12.1 to 12.3 and 12.5 to 12.8. Proved as `demand1` in proofs/Demand1.antt.
+use Prim.Native.Nat.{ℕ, _*_, _≤_, _<_}
 use mathlib.Core.Path.{_≡_}
 use mathlib.Core.Bool.{true, false}
 use mathlib.Core.List.{List, [], _∷_}
@@ -103,9 +103,19 @@ pub record ReadingRefusals : Type 0 where
   -- rule 3.4: 64 blocks are the most
   pub few-blocks : (bytes : List ℕ) (chart : Chart) → readChart bytes ≡ accepted chart → blockCount chart ≤ mostBlocks
 
+-- Rule 11.11 turned round, as a statement: each of the five buffers has the places that rule 12.2 uses.
+pub record HasRoom (chart : Chart) (lent : Buffers) : Type 0 where
+  pub blocks : blockCount chart ≤ length (lent .blocks)
+  pub must : chart .header .nodes * blockCount chart ≤ length (lent .must)
+  pub may : chart .header .nodes * blockCount chart ≤ length (lent .may)
+  pub marks : chart .header .nodes ≤ length (lent .marks)
+  pub classes : chart .header .nodes ≤ length (lent .classes)
+
 -- Rules 11.11, 11.12 and 12.3, of the analysis of an accepted chart: 11 if a buffer is short; else 12 if every pass that is allowed changes
 -- something; else it settles.
 pub record AnalysisRefusals (bytes : List ℕ) (chart : Chart) (allowance : ℕ) (lent : Buffers) : Type 0 where
+  pub not-short : HasRoom chart lent → buffersShort (planOf chart) lent ≡ false
+  pub has-room : buffersShort (planOf chart) lent ≡ false → HasRoom chart lent
   pub short : buffersShort (planOf chart) lent ≡ true → analysed bytes allowance lent ≡ record { answer = AnalysisRefused ShortBuffer; buffers = lent }
   pub unsettled : buffersShort (planOf chart) lent ≡ false
       → AllChange chart allowance

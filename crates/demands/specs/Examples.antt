@@ -1,12 +1,12 @@
 -- The examples of docs/RULES.md, section by section, as soundings, so that the page shows nothing that the definitions do not give. Those that
 -- another list has too (sections 5, 6, 8 and 10 in `starred`, 14 as `sample-report`; that section 7's table is the tightest, in `unchecked`) are not repeated. Nothing here is a rule of the tool: it is
 -- what rules come to.
-use Prim.Native.Nat.{ℕ}
+use Prim.Native.Nat.{ℕ, _*_, _/_, _%_}
 use mathlib.Core.Bool.{Bool, cond}
 use mathlib.Core.List.{List, [], _∷_, _++_}
 use lib.ListN.{length, replicate, set}
 use Rattle.lists.specs.Soundings.{Sounding, _reads_}
-use Rattle.chart.specs.Geometry.{blockOf, setOf, allPasses}
+use Rattle.chart.specs.Geometry.{mostNodes, blockOf, setOf, allPasses}
 use Rattle.chart.specs.Header.{fieldsIn, headerIn, headerNumbers}
 use Rattle.chart.specs.Chart.{recordsIn, nodeAt, chartIn}
 use Rattle.chart.specs.Sounded.{nodeOut, readOut}
@@ -42,9 +42,9 @@ onePass = analysed loopChart 1 (sevens 4 4 4 4 4) .buffers
 abbrev pub settledLoop : Buffers
 settledLoop = analysed loopChart allPasses (sevens 4 4 4 4 4) .buffers
 
--- 3,000 bytes: a header of 256 nodes, and zeros.
+-- 9,000 bytes: a header of the most nodes, and zeros.
 abbrev pub tooLong : List ℕ
-tooLong = 0x01 ∷ 0x40 ∷ 0x24 ∷ 0x00 ∷ 0x10 ∷ 0x00 ∷ 0x00 ∷ 0x00 ∷ replicate 2992 0
+tooLong = 0x01 ∷ 0x40 ∷ 0x24 ∷ 0x00 ∷ (mostNodes / 16) ∷ (mostNodes % 16 * 16) ∷ 0x00 ∷ 0x00 ∷ replicate 8992 0
 
 -- All of them, in the order of the page.
 abbrev pub examples : List Sounding

@@ -1,6 +1,7 @@
 -- Refusals 1 to 12 on charts that are written out: the loop chart damaged in one place at a time, lent too little, and allowed too few
 -- passes; beside each kind one case with nothing wrong. Nothing here is a rule of the tool: it is what rules 11.1 to 11.9, 11.11, 11.12 and 12.3 come
--- to. `Sounded` of the crate `chart` has two arrows to one node (rule 2.9), and rule 11.10, which takes 65 blocks.
+-- to. `Sounded` of the crate `chart` has how many nodes there may be (rule 11.5), two arrows to one node (rule 2.9), and rule 11.10, which takes 65
+-- blocks.
 use Prim.Native.Nat.{ℕ}
 use mathlib.Core.List.{List, [], _∷_, _++_}
 use lib.ListN.{replicate, set, take}

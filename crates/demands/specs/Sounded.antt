@@ -5,7 +5,7 @@ use mathlib.Core.Path.{_≡_}
 use Prim.Native.Nat.{ℕ, _*_, _≤_, _<_}
 use mathlib.Core.Bool.{true, false, cond}
 use mathlib.Core.List.{List, [], _∷_, _++_, map}
-use lib.ListN.{length, replicate, getD}
+use lib.ListN.{length, getD, take}
 use Rattle.lists.specs.Soundings.{Hold}
 use Rattle.cache.specs.Plain.{emptyCache}
 use Rattle.lists.specs.Lists.{Among}
@@ -16,8 +16,9 @@ use Rattle.checker.specs.Checker.{checked}
 use Rattle.totals.specs.declared.Totals.the-variants.{Between}
 use Rattle.totals.specs.Totals.{totals}
 use Rattle.chart.specs.Geometry.{longestChart, passesFor, allPasses}
-use Rattle.chart.specs.Sounded.{chartFields, twinArrows, ChartSounded}
-use Rattle.report.specs.Report.{taken, report}
+use Rattle.chart.specs.Sounded.{chartFields, nodeCounts, twinArrows, ChartSounded}
+use Rattle.report.specs.Text.{decimal}
+use Rattle.report.specs.Report.{taken, classWord, nodeLine, report}
 use Rattle.report.specs.Ending.{refuses, endingOf}
 use Rattle.chart.specs.Chart.{Chart}
 use Rattle.classes.specs.Class.{classBy}
@@ -54,10 +55,12 @@ pub record Sounded : Type 0 where
   pub loop-totals : totals loopChart (tableIn (after loopChart)) loopFigures ≡ Between 2 101
   -- the loop's report, whole, and the numbers that the program goes by (rules 1.4, 9.6, 13.1 and 13.2)
   pub sample-report : report loopChart ≡ loopReport
-  pub longest-chart : longestChart ≡ 2056
-  pub input-taken : length (taken (replicate 3000 0)) ≡ 2057
-  pub passes-allowed : allPasses ≡ 262401
+  pub longest-chart : longestChart ≡ 8200
+  pub input-taken : (input : List ℕ) → taken input ≡ take 8201 input
+  pub passes-allowed : allPasses ≡ 1049601
   pub passes-enough : passesFor 3 1 2 ≡ 16
+  -- the line of every node, however many there are (rule 14.2)
+  pub node-line : (classes : List ℕ) (n : ℕ) → nodeLine classes n ≡ decimal n ++ (32 ∷ []) ++ classWord (getD classes n 0) ++ (10 ∷ [])
   -- how the program ends (rule 13.3): which inputs are refused, and the status of a report and of a refusal, written whole and not
   pub sample-not-refused : refuses loopChart ≡ false
   pub no-bytes-refused : refuses [] ≡ true
@@ -95,4 +98,4 @@ pub record Sounded : Type 0 where
   -- the examples of docs/RULES.md
   pub examples-hold : Hold examples
   -- how many soundings each list has: none is dropped unseen
-  pub how-many : map length (chartFields ∷ twinArrows ∷ starred ∷ damaged ∷ unanalysed ∷ unchecked ∷ looser ∷ untotalled ∷ summed ∷ corners ∷ sharedSoundings ∷ shapeSoundings ∷ leftBehind ∷ edges ∷ right ∷ mistaken ∷ examples ∷ []) ≡ 12 ∷ 22 ∷ 13 ∷ 26 ∷ 13 ∷ 13 ∷ 10 ∷ 20 ∷ 7 ∷ 16 ∷ 13 ∷ 6 ∷ 11 ∷ 12 ∷ 6 ∷ 6 ∷ 25 ∷ []
+  pub how-many : map length (chartFields ∷ nodeCounts ∷ twinArrows ∷ starred ∷ damaged ∷ unanalysed ∷ unchecked ∷ looser ∷ untotalled ∷ summed ∷ corners ∷ sharedSoundings ∷ shapeSoundings ∷ leftBehind ∷ edges ∷ right ∷ mistaken ∷ examples ∷ []) ≡ 9 ∷ 12 ∷ 22 ∷ 13 ∷ 26 ∷ 13 ∷ 13 ∷ 10 ∷ 20 ∷ 7 ∷ 16 ∷ 13 ∷ 6 ∷ 11 ∷ 12 ∷ 6 ∷ 6 ∷ 25 ∷ []

@@ -1,4 +1,4 @@
--- What the program prints for any input. Rules 13.1, 13.2 and 14.1 to 14.3. A class above 4, which the analysis never writes, reads as none. The
+-- What the program prints for any input. Rules 1.4, 13.1, 13.2 and 14.1 to 14.3. A class above 4, which the analysis never writes, reads as none. The
 -- analysis gets buffers of the program's own, zeros with room for the largest chart; so a report never says 11. How the input is read is not said here.
 use Prim.Native.Nat.{ℕ, _+_, _*_}
 use mathlib.Core.List.{List, [], _∷_, _++_}
@@ -17,7 +17,7 @@ use Rattle.analysis.specs.Analysis.{Buffers, Left, analysed}
 use Rattle.classes.specs.Class.{unreached, hit, miss, unsure}
 use Rattle.report.specs.Text.{lineFeed, space, nodesWord, blocksWord, passesWord, unreachedWord, hitWord, missWord, unsureWord, noneWord, refusedWord, atWord, decimal}
 
--- Rule 13.1: as many bytes as the longest chart has, and one more.
+-- Rules 1.4 and 13.1: as many bytes as the longest chart has, and one more.
 abbrev pub taken : List ℕ → List ℕ
 taken input = take (longestChart + 1) input
 

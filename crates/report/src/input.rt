@@ -50,7 +50,7 @@ fn report_bytes(chart: &[u8]) -> Text
     written(nodes, &classes, answer)
 }
 
-// Answers the text for any input, and whether that is a refusal: of its first 2,057 bytes, with 262,401 passes (rules 13.1 and 13.2).
+// Answers the text for any input, and whether that is a refusal: of its first `TAKEN` bytes, with `Geometry::PASSES` passes (rules 13.1 and 13.2).
 pub fn report(input: &[u8]) -> Text
     ensures { λ r. ⌜ r ≡ textOf (defined (now (input .entry))) (refuses (now (input .entry))) ⌝ }
     ensures { λ r. ⌜ r .size ≤ mostText ⌝ }

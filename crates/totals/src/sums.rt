@@ -14,7 +14,7 @@ pub struct Tariff {
     pub miss: u16,
 }
 
-// The two sums so far, in u64: Geometry::NODES times 65,535 twice is below 2^40, so that none overflows.
+// The two sums so far, in u64. Neither overflows: Geometry::NODES products of two numbers of 16 bits are far below 2^64 (`Small`).
 pub(crate) struct Sums {
     pub low: u64,
     pub high: u64,

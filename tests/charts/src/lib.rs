@@ -16,6 +16,7 @@ pub mod random_edges;
 mod random_loose;
 mod random_reached;
 mod record;
+pub mod slowest;
 pub mod twins;
 
 pub use chart::Chart;

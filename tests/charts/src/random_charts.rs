@@ -15,10 +15,11 @@ pub fn whole(random: &mut Random) -> Chart {
     if random.once_in(8) {
         return at_an_edge(random);
     }
-    let nodes = match random.below(4) {
-        0 => random.within(1, 4),
-        1 => random.within(1, 60),
-        2 => random.within(60, 140),
+    let nodes = match random.below(16) {
+        0..=4 => random.within(1, 4),
+        5..=9 => random.within(1, 60),
+        10..=13 => random.within(60, 140),
+        14 => random.within(141, NODES),
         _ => random.within(NODES - 6, NODES),
     };
     of_nodes(random, nodes)

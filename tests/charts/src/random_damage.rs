@@ -32,11 +32,13 @@ fn damage_header(random: &mut Random, header: &mut Header) {
         2 => header.sets = random.below(16),
         3 => header.ways = random.below(16),
         4 => header.start = random.below(4),
-        5 => header.spare = random.below(1024),
-        6 if random.once_in(2) => header.nodes = random.below(NODES + 44),
-        6 => header.nodes = random.below(4096),
+        5 => header.spare = random.below(1 << 10),
+        6 if random.once_in(2) => {
+            header.nodes = [0, 1, NODES - 1, NODES, NODES + 1, NODES + 2][random.below(6) as usize]
+        }
+        6 => header.nodes = random.below(1 << 12),
         7 if random.once_in(2) => header.entry = random.within(header.nodes.saturating_sub(1), header.nodes).min(4095),
-        7 => header.entry = random.below(4096),
+        7 => header.entry = random.below(1 << 12),
         _ => header.tail = random.below(256),
     }
 }

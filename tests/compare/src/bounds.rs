@@ -50,7 +50,7 @@ impl Question {
         let mut faults = 0;
         let node = |random: &mut Random| random.below(marks.len() as u64) as usize;
         if random.once_in(turns) && self.costs.miss > 0 {
-            self.costs.hit = random.within(u64::from(self.costs.miss) + 1, 65_536).min(65_535) as u16;
+            self.costs.hit = random.within(u64::from(self.costs.miss) + 1, 1 << 16).min(65_535) as u16;
             self.costs.miss = self.costs.miss.min(self.costs.hit - 1);
             faults += 1;
         }

@@ -13,7 +13,9 @@ pub fn chart(random: &mut Random) -> Vec<u8> {
         0..=139 => random.within(1, 10),
         140..=185 => random.within(11, 24),
         186..=195 => random.within(25, 80),
-        _ => random.within(81, NODES as u64),
+        196..=197 => random.within(81, 256),
+        // where a node's number takes more than a byte
+        _ => random.within(257, NODES as u64),
     };
     let chart = if random.once_in(16) {
         at_an_edge(random)

@@ -5,6 +5,7 @@ pub mod each;
 pub mod folder;
 pub mod hold;
 pub mod made_up;
+pub mod numbers;
 pub mod pages;
 pub mod program;
 pub mod rules;

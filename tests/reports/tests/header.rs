@@ -71,12 +71,15 @@ fn starts_0_and_1_pass_and_2_and_3_give_4() {
 
 #[test]
 fn counts_up_to_the_most_pass_and_others_give_5() {
-    each(&[1, 2, 3, NODES / 2 - 1, NODES / 2, NODES - 1, NODES], |&nodes| {
+    each(&[1, 2, 3, 255, 256, 257, 900, NODES - 1, NODES], |&nodes| {
         accepts(&Chart::steps(nodes).bytes(), nodes, 0);
     });
-    each(&[0, NODES + 1, NODES + 2, 2 * NODES - 1, 2 * NODES, 4095], |&nodes| {
-        says(&Chart::steps(nodes).bytes(), "refused 5 at 0");
-    });
+    each(
+        &[0, NODES + 1, NODES + 2, 2 * NODES - 1, 2 * NODES, 3 * NODES, 4095],
+        |&nodes| {
+            says(&Chart::steps(nodes).bytes(), "refused 5 at 0");
+        },
+    );
 }
 
 #[test]

@@ -41,7 +41,7 @@ fn a_longer_input_is_still_held_to_its_header_first() {
     let mut bytes = longest(5 * LONGEST);
     bytes[0] = 2;
     says(&bytes, "refused 2 at 0");
-    says(&Chart::steps(NODES + 44).bytes(), "refused 5 at 0");
+    says(&Chart::steps(NODES + 1).bytes(), "refused 5 at 0");
 }
 
 #[test]

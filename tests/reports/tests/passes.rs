@@ -41,7 +41,7 @@ fn a_backward_ring_agrees() {
     each(&[(0, 8), (2, 8), (6, 1)], |&(sets, ways)| {
         let mut chart = backward(NODES).shaped(sets, ways, 1);
         chart.records[0] = chart.records[0].to(NODES as u64 - 1);
-        chart.records[128] = chart.records[128].to(200);
+        chart.records[NODES / 2] = chart.records[NODES / 2].to(3 * NODES as u64 / 4);
         agrees(&chart.bytes());
     });
 }

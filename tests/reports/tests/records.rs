@@ -223,7 +223,7 @@ fn the_place_is_the_first_node_at_fault() {
         kind: 3,
         ..Record::step()
     };
-    for node in [limits::NODES - 1, 200, 3, 1, 0] {
+    for node in [limits::NODES - 1, 256, 255, 3, 1, 0] {
         chart.records[node] = broken;
         says(&chart.bytes(), &format!("refused 9 at {node}"));
     }

@@ -1,5 +1,6 @@
 //! No promise speaks of the stack, so it is tried: the largest charts in 1 MiB of it.
 
+use charts::slowest::slowest;
 use charts::{Chart, Record};
 use reports::hold::same;
 use reports::program::{answer, command_after};
@@ -19,7 +20,13 @@ fn a_stack_of_1_mib_is_enough() {
         backward.records[node] = backward.records[node].to(node as u64 - 1);
     }
     backward.header.entry = NODES as u64 - 1;
-    for chart in [looping.bytes(), backward.bytes(), vec![255; INPUT + 1_000], Vec::new()] {
-        same(&answer(command_after(ONE_MIB), &chart), &chart);
+    for chart in [looping, backward, slowest(NODES)] {
+        let report = answer(command_after(ONE_MIB), &chart.bytes());
+        same(&report, &chart.bytes());
+        let first = format!("nodes {NODES} blocks {BLOCKS} passes ");
+        assert!(report.starts_with(&first), "not the largest chart, but {report}");
+    }
+    for input in [vec![255; INPUT + 1_000], Vec::new()] {
+        same(&answer(command_after(ONE_MIB), &input), &input);
     }
 }

@@ -1,7 +1,7 @@
 //! The limits of rule 1.4, and what follows from them. All that is no part of the proof takes them from here.
 
 /// The most nodes of a chart.
-pub const NODES: usize = 256;
+pub const NODES: usize = 1024;
 
 /// The most blocks of a chart.
 pub const BLOCKS: usize = 64;

@@ -1,9 +1,10 @@
 //! The number of passes, by hand from rules 9.1 to 9.6.
 
+use charts::slowest::slowest;
 use charts::{Chart, Record};
 use second::analysis::Analysed;
 use second::lending::Lending;
-use second::limits::{LONGEST, PASSES};
+use second::limits::{NODES, PASSES};
 
 /// The number of passes of a chart that settles.
 fn passes(chart: &Chart) -> usize {
@@ -11,11 +12,6 @@ fn passes(chart: &Chart) -> usize {
         Analysed::Settled { passes, .. } => passes,
         other => panic!("{other:?}"),
     }
-}
-
-#[test]
-fn what_follows_from_the_limits_is_what_the_rules_name() {
-    assert_eq!((LONGEST, PASSES), (2_056, 262_401));
 }
 
 #[test]
@@ -75,4 +71,11 @@ fn the_state_after_a_record_is_worked_out_once_for_both_arrows() {
         Record::step(),
     ]);
     assert_eq!(passes(&chart), 3);
+}
+
+#[test]
+fn the_slowest_charts_take_16_passes_for_each_node_less_53() {
+    for nodes in [6, 7, 16, 66, 256, NODES] {
+        assert_eq!(passes(&slowest(nodes)), 16 * nodes - 53, "of {nodes} nodes");
+    }
 }

@@ -2,8 +2,11 @@
 
 pub mod before;
 pub mod boundary;
+pub mod draw;
+pub mod growth;
 pub mod kinds;
 pub mod measures;
 pub mod plot;
+pub mod plot_growth;
 pub mod runs;
 pub mod timing;

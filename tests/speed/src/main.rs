@@ -2,18 +2,24 @@
 //!
 //!     speed table docs/speed.svg               the table, and the picture into that file
 //!     speed before                             the table of the analysis before a change and now
+//!     speed growth PROGRAM docs/growth.svg     how long the program takes as charts grow, and the picture into that file
+//!     speed slowest 900                        the slowest chart of so many nodes, to standard output
 //!     speed ours backward 256 64 3             the proved analysis of that chart, three times
 //!     speed second backward 256 64 3           the second program's
 
+use charts::slowest::slowest;
 use second::lending::Lending;
 use second::limits::PASSES;
 use speed::before::BEFORE;
+use speed::growth::{growths, start, Growth};
 use speed::kinds::Kind;
 use speed::measures::{ratio, Case, Measure};
 use speed::plot;
+use speed::plot_growth;
 use speed::runs::{Run, OURS, SECOND};
 use std::env;
 use std::fs;
+use std::io::{stdout, Write};
 
 fn main() {
     let words: Vec<String> = env::args().skip(1).collect();
@@ -21,8 +27,12 @@ fn main() {
     match words[..] {
         ["table", picture] => table(picture),
         ["before"] => changed(),
+        ["growth", program, picture] => growth(program, picture),
+        ["slowest", nodes] => stdout()
+            .write_all(&slowest(number(nodes)).bytes())
+            .expect("standard output takes the chart"),
         [whose, kind, nodes, blocks, times] => alone(whose, kind, number(nodes), number(blocks), number(times)),
-        _ => panic!("'table PICTURE', 'before', or: ours|second short|looping|backward NODES BLOCKS TIMES"),
+        _ => panic!("'table PICTURE', 'before', 'growth PROGRAM PICTURE', 'slowest NODES', or: ours|second short|looping|backward NODES BLOCKS TIMES"),
     }
 }
 
@@ -56,7 +66,7 @@ fn changed() {
     let before = BEFORE.expect("tests/speed/before FOLDER, with the folder of the archive before the change");
     println!("| chart | nodes | blocks | before, µs | now, µs | now / before | beside the passes: now / before |");
     println!("|---|---|---|---|---|---|---|");
-    for case in Case::changed() {
+    for case in Case::changed().filter(|case| case.taken_by(before)) {
         let measure = case.compare([OURS, before]);
         let Case { nodes, blocks, .. } = case;
         let name = case.kind.name();
@@ -66,6 +76,22 @@ fn changed() {
             measure.whole.ratio, measure.rest.ratio
         );
     }
+}
+
+fn growth(program: &str, picture: &str) {
+    println!("one bare step: {:.1} ms", start(program).milliseconds);
+    let growths = growths(program);
+    for Growth { name, runs } in &growths {
+        println!("\n| {name}: nodes | passes | ms | ns for a node in a pass |\n|---|---|---|---|");
+        for run in runs {
+            let visit = run.milliseconds / run.passes as f64 / run.nodes as f64 * 1e6;
+            println!(
+                "| {} | {} | {:.1} | {visit:.1} |",
+                run.nodes, run.passes, run.milliseconds
+            );
+        }
+    }
+    fs::write(picture, plot_growth::svg(&growths)).expect("the picture can be written");
 }
 
 fn alone(whose: &str, kind: &str, nodes: usize, blocks: usize, times: usize) {

@@ -6,6 +6,7 @@ use crate::timing::{best, middle, turns};
 use second::analysis::Analysed;
 use second::lending::Lending;
 use second::limits::{BLOCKS, NODES, PASSES};
+use second::refusal::Refusal;
 
 #[derive(Clone, Copy)]
 pub struct Case {
@@ -41,8 +42,8 @@ impl Measure {
 }
 
 impl Case {
-    /// A chart of 16 nodes has no more than 16 blocks.
-    const SIZES: [(usize, usize); 4] = [(NODES, BLOCKS), (NODES, 8), (16, 16), (16, 8)];
+    /// Nodes and blocks, the most of both first. A chart of 16 nodes has no more than 16 blocks.
+    const SIZES: [(usize, usize); 6] = [(NODES, BLOCKS), (NODES, 8), (256, BLOCKS), (256, 8), (16, 16), (16, 8)];
 
     /// The table of the proved analysis and the second program's.
     pub fn all() -> impl Iterator<Item = Case> {
@@ -62,6 +63,18 @@ impl Case {
                 blocks,
                 cleared: false,
             })
+        })
+    }
+
+    /// Whether an analysis takes charts of so many nodes: one from before a change may refuse them.
+    pub fn taken_by(self, analysis: Analysis) -> bool {
+        let mut lent = Lending::of(self.blocks, self.nodes, 0);
+        let charts = self.kind.charts(self.nodes, self.blocks);
+        charts.iter().all(|chart| {
+            !matches!(
+                analysis(&mut lent, chart, 0),
+                Analysed::Refused(Refusal { number: 5, .. })
+            )
         })
     }
 

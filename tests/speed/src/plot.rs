@@ -1,11 +1,9 @@
-//! The ratios as a picture: a bar for each, and a line at each target. All colours are of middling brightness, so that they can be
-//! seen on a light and on a dark ground.
+//! The ratios as a picture: a bar for each, and a line at each target.
 
+use crate::draw::{line, rectangle, sheet, text, INK};
 use crate::measures::Case;
 use std::env::consts::ARCH;
-use std::fmt::Write;
 
-const INK: &str = "#7b7b7b";
 const ON_BARS: &str = "#ffffff";
 const AS_LEFT: &str = "#3d86c6";
 const CLEARED: &str = "#c97b2d";
@@ -38,13 +36,10 @@ pub fn svg(ratios: &[(Case, f64)]) -> String {
         y += if case.cleared { STEP - BAR } else { BAR };
     }
     let height = y + 12.0;
-    let mut all = format!(
-        r#"<svg xmlns="http://www.w3.org/2000/svg" viewBox="0 0 {WIDTH} {height}" width="{WIDTH}" height="{height}" font-family="sans-serif" font-size="13" font-weight="bold">"#
-    );
-    all.push('\n');
+    let mut all = String::new();
     legend(&mut all);
     targets(&mut all, y);
-    all + &bars + "</svg>\n"
+    sheet([WIDTH, height], &(all + &bars))
 }
 
 fn bar(out: &mut String, y: f64, case: Case, ratio: f64) {
@@ -81,29 +76,4 @@ fn targets(out: &mut String, bottom: f64) {
         line(out, [x, TOP], [x, bottom], TARGET);
     }
     line(out, [LEFT, TOP], [LEFT, bottom], INK);
-}
-
-fn text(out: &mut String, [x, y]: [f64; 2], anchor: &str, colour: &str, words: &str) {
-    put(
-        out,
-        format!(r#"<text x="{x:.1}" y="{y:.1}" text-anchor="{anchor}" fill="{colour}">{words}</text>"#),
-    );
-}
-
-fn rectangle(out: &mut String, [x, y]: [f64; 2], [width, height]: [f64; 2], colour: &str) {
-    put(
-        out,
-        format!(r#"<rect x="{x:.1}" y="{y:.1}" width="{width:.1}" height="{height:.1}" fill="{colour}"/>"#),
-    );
-}
-
-fn line(out: &mut String, [x1, y1]: [f64; 2], [x2, y2]: [f64; 2], colour: &str) {
-    put(
-        out,
-        format!(r#"<line x1="{x1:.1}" y1="{y1:.1}" x2="{x2:.1}" y2="{y2:.1}" stroke="{colour}" stroke-width="1.5"/>"#),
-    );
-}
-
-fn put(out: &mut String, element: String) {
-    writeln!(out, "  {element}").expect("text can be put into a string");
 }

@@ -7,6 +7,9 @@ use compare::features::{GEOMETRIES, GEOMETRY};
 use compare::group::Group;
 use second::limits::NODES;
 
+/// The highest number of nodes that the header's field can hold.
+const HIGHEST: usize = (1 << 12) - 1;
+
 /// Sets a field of a header.
 type Set = fn(&mut Header, u64);
 
@@ -53,16 +56,19 @@ fn every_value_of_every_header_field() {
 #[test]
 fn every_number_of_nodes_with_as_many_records() {
     let mut group = Group::of("numbers of nodes");
-    for nodes in 0..=NODES + 44 {
+    for nodes in 0..=HIGHEST {
         let mut chart = Chart::steps(nodes);
         for entry in [0, nodes.saturating_sub(1), nodes, nodes + 1] {
-            chart.header.entry = entry as u64;
+            chart.header.entry = entry.min(HIGHEST) as u64;
             group.trial(&chart.bytes());
         }
     }
     let tally = group.end();
-    tally.expect_each(READ, 0..=0, 2 * NODES as u64);
-    tally.expect_each(READ, 5..=6, 100);
+    // none, and each number above the most, are refused whatever the entry is
+    let (allowed, others) = (NODES as u64, (HIGHEST + 1 - NODES) as u64);
+    assert_eq!(tally.count(READ, 0), 2 * allowed);
+    assert_eq!(tally.count(READ, 5), 4 * others);
+    assert_eq!(tally.count(READ, 6), 2 * allowed);
 }
 
 #[test]

@@ -3,7 +3,7 @@
 use charts::Chart;
 use compare::ask::READ;
 use compare::group::Group;
-use second::limits::NODES;
+use second::limits::{LONGEST, NODES};
 
 /// The bytes cut, or filled up with zeros.
 fn of_length(bytes: &[u8], length: usize) -> Vec<u8> {
@@ -40,7 +40,7 @@ fn every_length_around_a_charts_own() {
         for length in chart.len().saturating_sub(17)..=chart.len() + 17 {
             group.trial(&of_length(&chart, length));
         }
-        for length in [4096, 65_536] {
+        for length in [LONGEST, LONGEST + 1, 2 * LONGEST, 1 << 16] {
             group.trial(&of_length(&chart, length));
         }
     }

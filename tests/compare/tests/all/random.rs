@@ -1,6 +1,6 @@
 //! Random charts, whole and damaged, through everything.
 
-use charts::random_edges::EDGES;
+use charts::random_edges::{EDGES, NODE_EDGES};
 use compare::ask::{ANALYSE, CHECK, READ, TOTAL};
 use compare::crowds::{END, FULL, FULLEST, LAST_MAY, LAST_MUST, ONE_BIT};
 use compare::draw::{ALLOWANCE, ALLOWANCES, LENGTHS};
@@ -99,7 +99,14 @@ fn expect_edges(tally: &Tally) {
         }
     }
     tally.expect_each(NODES, 1..=2, 5_000);
-    tally.expect_each(NODES, limits::NODES - 1..=limits::NODES, 50);
+    for nodes in NODE_EDGES.map(|nodes| nodes as usize) {
+        tally.expect_each(NODES, nodes..=nodes, 50);
+    }
+    let large: u64 = (257..=limits::NODES).map(|nodes| tally.count(NODES, nodes)).sum();
+    assert!(
+        large >= 1_500,
+        "only {large} charts have nodes whose number takes more than a byte"
+    );
 }
 
 fn expect_lent(tally: &Tally) {

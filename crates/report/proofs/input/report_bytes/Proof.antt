@@ -1,9 +1,9 @@
 use borrow.Author.Needs.{needs}
-use Prim.Native.Nat.{ℕ}
+use Prim.Native.Nat.{ℕ, _≤_}
 use mathlib.Core.List.{List}
-use mathlib.Core.Path.{_≡_, _∙_}
-use Rattle.chart.specs.Geometry.{mostNodes, mostBlocks}
-use Rattle.chart.specs.Geometry.{allPasses}
+use mathlib.Core.Path.{_≡_, _∙_, sym, subst}
+use lib.ListN.{length}
+use Rattle.chart.specs.Geometry.{mostNodes, mostBlocks, allPasses}
 use Rattle.analysis.specs.Analysis.{Left, analysed}
 use Rattle.report.specs.Report.{reportOf, zeroBuffers}
 use Rattle.report.specs.Ending.{refusedBy}
@@ -36,8 +36,14 @@ nodes-of-requires c κs = search needs
 slice-aggregate-written : tie.Need-slice-aggregate-written
 slice-aggregate-written c = search needs
 
+-- The analysis leaves as many classes as it was lent.
+classes-long : (c : tie.After-classes3) → length (c .before .before .before .before .before .before .before .analyse .last .1 .1 .1 .1 .1 .1 .0) ≡ mostNodes
+classes-long c = c .before .before .before .before .before .before .before .analyse .kept .1 .1 .1 .1 .1 .1 .0
+
 written-requires : tie.Need-written-requires
-written-requires c κs = search needs
+written-requires c κs =
+    let few : c .before .nodes-of .result ≤ mostNodes = c .before .nodes-of .ensures .0 in
+    (few, subst (λ (n : ℕ). c .before .nodes-of .result ≤ n) (sym (classes-long c)) few)
 
 returns : tie.Need-returns
 returns c =

@@ -19,7 +19,7 @@ mostBlocks = 64
 abbrev pub mostWays : ℕ
 mostWays = 8
 
--- Rules 1.3 and 1.4: how long the largest chart is.
+-- Rules 1.3 and 1.4: how many bytes the longest chart has.
 abbrev pub longestChart : ℕ
 longestChart = chartLength mostNodes
 

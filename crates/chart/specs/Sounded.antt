@@ -1,7 +1,7 @@
 -- Soundings of the reader and of what it reads by: a header and a record in which no two fields can change places unseen (they are no chart's:
--- entry and arrows are not below N), a bare step, a read and a write, the limits of N, with the entry there, and of the blocks from both sides (rules
--- 1.2, 1.4, 3.4, 11.5 and 11.6), two arrows to one node, and what looks alike and is allowed (rule 2.9).
--- Nothing here is a rule of the tool: these are examples, and `sounded` in proofs/Sounded.antt holds the definitions to them.
+-- entry and arrows are not below N), a bare step, a read and a write, the limits of N, of the entry and of the blocks from both sides (rules 1.2, 1.4,
+-- 3.4, 11.5, 11.6, 11.8 and 11.10), two arrows to one node, and what looks alike and is allowed (rule 2.9).
+-- Nothing here is a rule of the tool: these are examples, and `chart-sounded` in proofs/Sounded.antt holds the definitions to them.
 use Prim.Native.Nat.{ℕ, _+_, _*_, _-_, _/_, _%_}
 use mathlib.Core.Bool.{cond}
 use mathlib.Core.List.{List, [], _∷_, _++_, map}
@@ -157,14 +157,14 @@ chartFields =
     ∷ (arrowsOf (nodeAt threeKinds 1 .targets) reads (0x123 ∷ 0x456 ∷ []))
     ∷ []
 
--- The number that the reader says of so many nodes, and of 1,024 nodes with this entry, where their records are missing.
+-- The number of the refusal of so many nodes, and of 1,024 nodes with this entry, where their records are missing.
 abbrev pub numberFor : ℕ → ℕ
 numberFor nodes = readSays (headerAlone nodes) .number
 
 abbrev pub numberForEntry : ℕ → ℕ
 numberForEntry entry = readSays (headerWith 1024 entry) .number
 
--- How many nodes a chart may have, from both sides. With its records missing, a header that is right has the wrong length, refusal 8.
+-- How many nodes a chart may have, and which its entry may be, from both sides. With its records missing, a header that is right has the wrong length, refusal 8.
 abbrev pub nodeCounts : List Sounding
 nodeCounts =
     -- 1,024 nodes are not too many; 1,025 are, and so is none
@@ -181,7 +181,7 @@ nodeCounts =
     -- entries of 1,024 nodes: each lower bit alone, and all of them; then the first that is none, and others above it
     ∷ (map numberForEntry (1 ∷ 2 ∷ 4 ∷ 8 ∷ 16 ∷ 32 ∷ 64 ∷ 128 ∷ 256 ∷ 512 ∷ 1023 ∷ []) reads replicate 11 8)
     ∷ (map numberForEntry (1024 ∷ 1025 ∷ 1536 ∷ 2047 ∷ 2048 ∷ 3072 ∷ 4095 ∷ []) reads replicate 7 6)
-    -- entry 1,025 of 1,025 nodes, which are refused before it
+    -- entry 1,025 of 1,025 nodes: 5 is told before 6
     ∷ (readOut (headerWith 1025 1025) reads (5 ∷ 0 ∷ 0 ∷ []))
     -- with all their records, bare steps: of 1,024 the header is accepted (to read so many records takes the prover too many steps), 1,025 are refused
     ∷ (readHeaderSays (headerAlone 1024 ++ replicate 8192 0x00) .header reads (2 ∷ 0 ∷ 2 ∷ 0 ∷ 1024 ∷ 0 ∷ []))

@@ -17,13 +17,14 @@ use Rattle.flow.proofs.Outcomes.{settle-spent}
 use Rattle.ages.specs.Charted.{planOf, agesFlow}
 use Rattle.tables.specs.Lent.{Lent, agesUsed, marksUsed, lentOf}
 use Rattle.tables.specs.Fitting.{TableFits}
-use Rattle.tables.proofs.Laid.{must-laid, may-laid, marks-laid, long-enough, not-short}
+use Rattle.tables.proofs.Laid.{must-laid, may-laid, marks-laid, long-enough}
 use Rattle.tables.proofs.Fitting.{afterPasses-fits}
 use Rattle.analysis.specs.declared.Analysed.the-variants.{Settled, Unsettled, Refused}
 use Rattle.classes.specs.Class.{tableClasses}
 use Rattle.analysis.proofs.Room.{room-parts, parts-room}
 use Rattle.analysis.specs.Analysis.{Buffers, Left, tableIn, classesUsed, buffersShort, fill, zeroLent, filledBy, refuse, finish, analyseRead, analysed}
 use Rattle.demands.specs.Demand1.{AllChange, AnalysisRefusals, SameLengths}
+use Rattle.demands.proofs.Checking.{room-short, short-room}
 use Rattle.demands.specs.Inner.{Done}
 
 -- ---- what it answers
@@ -73,11 +74,10 @@ module _ (bytes : List ℕ) (chart : Chart) (allowance : ℕ) (lent : Buffers) (
   unfolding finish
   analysis-refusals =
       record {
-        not-short = λ room. parts-room (planOf chart) lent (room .blocks) (not-short (planOf chart) (tableIn lent) (room .must) (room .may) (room .marks)) (room .classes);
+        not-short = λ room. parts-room (planOf chart) lent (room .blocks) (room-short chart (tableIn lent) (room .table)) (room .classes);
         has-room = λ room.
             let parts = room-parts (planOf chart) lent room in
-            let long = long-enough (planOf chart) (tableIn lent) (parts .1 .0) in
-            record { blocks = parts .0; must = long .0; may = long .1 .0; marks = long .1 .1; classes = parts .1 .1 };
+            record { blocks = parts .0; table = short-room chart (tableIn lent) (parts .1 .0); classes = parts .1 .1 };
         short = answered-short;
         unsettled = λ room all. answered-outcome room spent (settle-spent (agesFlow chart) allowance all);
         settled = λ room some. go room some (settle (agesFlow chart) allowance) refl;

@@ -12,11 +12,12 @@ use Rattle.ages.proofs.Charting.{chart-sound}
 use Rattle.checker.specs.declared.Checked.{Checked}
 use Rattle.checker.specs.declared.Checked.the-variants.{Yes, No}
 use Rattle.checker.specs.Checker.{passing, checked, checkedSays}
+use Rattle.tables.proofs.Laid.{long-enough, not-short}
 use Rattle.checker.specs.Inner.{answerOf}
 use Rattle.checker.proofs.Answers.{checked-accepted}
 use Rattle.checker.proofs.Deciding.{passing-yes, yes-long, yes-passing}
 use Rattle.checker.proofs.Used.{passing-used}
-use Rattle.demands.specs.Demand1.{CheckerRefusals}
+use Rattle.demands.specs.Demand1.{TableRoom, CheckerRefusals}
 
 -- ---- what it answers
 
@@ -25,10 +26,23 @@ says-yes true pass e = absurd (omega arith)
 says-yes false true e = (refl, refl)
 says-yes false false e = absurd (omega arith)
 
+-- ---- room for a table
+
+module _ (chart : Chart) (table : Lent) where
+  pub room-short : TableRoom chart table → tableShort (planOf chart) table ≡ false
+  room-short room = not-short (planOf chart) table (room .must) (room .may) (room .marks)
+
+  pub short-room : tableShort (planOf chart) table ≡ false → TableRoom chart table
+  short-room e =
+      let long = long-enough (planOf chart) table e in
+      record { must = long .0; may = long .1 .0; marks = long .1 .1 }
+
 module _ (bytes : List ℕ) (chart : Chart) (table : Lent) (read : readChart bytes ≡ accepted chart) where
   pub checker-refusals : CheckerRefusals bytes chart table
   checker-refusals =
       record {
+        not-short = room-short chart table;
+        has-room = short-room chart table;
         short = λ e. checked-accepted bytes chart table read ∙ (rw e);
         answers = λ e. answers (passing (planOf chart) table) (checked-accepted bytes chart table read ∙ (rw e));
       }

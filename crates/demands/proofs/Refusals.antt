@@ -23,6 +23,7 @@ unfolding readChart readingOf analysed checked totals headerRead
 reading-refusals =
     record {
       order = λ bytes. refl;
+      header-order = λ bytes. refl;
       given = λ bytes refusal f. first-applies refused (chartCases bytes) (accepted (chartIn bytes)) refusal f;
       only = λ bytes refusal e. applies-first refused (chartCases bytes) (accepted (chartIn bytes)) refusal (λ a b q. cc) (λ q. let z : _≡_ {A = ℕ} 0 1 = cc in omega arith) e;
       header-given = λ bytes refusal f. first-applies HeaderRefused (bytesCases bytes) (HeaderAccepted (headerIn bytes)) refusal f;

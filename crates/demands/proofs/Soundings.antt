@@ -31,6 +31,7 @@ use Rattle.report.specs.Report.{report}
 use Rattle.report.specs.Ending.{refuses}
 use Rattle.report.proofs.Refusing.{refusal-told}
 use Rattle.machine.specs.Machine.{keyOf, plainMachine}
+use Rattle.demands.proofs.Anywhere.{anywhere}
 use Rattle.demands.specs.Soundings.{starred, loopFigures, tenTurns}
 use Rattle.demands.specs.Refused.{damaged, unanalysed}
 use Rattle.demands.specs.Tabled.{unchecked, looser, untotalled, summed}
@@ -161,10 +162,9 @@ sounded =
       loop-totals = refl;
       sample-report = refl;
       longest-chart = refl;
-      input-taken = λ input. refl;
       passes-allowed = refl;
       passes-enough = refl;
-      node-line = λ classes n. refl;
+      at-any-number = anywhere;
       sample-not-refused = refl;
       no-bytes-refused = refl;
       refusal-told = refusal-told;

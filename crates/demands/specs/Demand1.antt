@@ -27,7 +27,7 @@ use Rattle.flow.specs.Pass.{pass, afterPasses}
 use Rattle.ages.specs.Charted.{planOf, agesFlow}
 use Rattle.costs.specs.Costs.{Figures, lowTotal, highTotal}
 use Rattle.tables.specs.Lent.{Lent, tableOf, tableShort, SameUsed, TablePasses}
-use Rattle.analysis.specs.Analysis.{Buffers, buffersShort, filledByZeros, analysed, analyseSays}
+use Rattle.analysis.specs.Analysis.{Buffers, tableIn, buffersShort, filledByZeros, analysed, analyseSays}
 use Rattle.analysis.specs.declared.Analysed.the-variants.{Settled, Unsettled}
 use Rattle.analysis.specs.declared.Analysed.the-variants.{Refused as AnalysisRefused}
 use Rattle.checker.specs.declared.Checked.the-variants.{Yes, No}
@@ -65,6 +65,7 @@ pub record ReadingRefusals : Type 0 where
   pub given : (bytes : List ℕ) (refusal : Refusal) → FirstApplies (chartCases bytes) refusal → readChart bytes ≡ refused refusal
   pub only : (bytes : List ℕ) (refusal : Refusal) → readChart bytes ≡ refused refusal → FirstApplies (chartCases bytes) refusal
   -- reading the header alone gives 1 to 8, exactly by their rules, as reading the whole does
+  pub header-order : (bytes : List ℕ) → numbersOf (bytesCases bytes) ≡ 1 ∷ 2 ∷ 3 ∷ 4 ∷ 5 ∷ 6 ∷ 7 ∷ 8 ∷ []
   pub header-given : (bytes : List ℕ) (refusal : Refusal) → FirstApplies (bytesCases bytes) refusal → headerRead bytes ≡ HeaderRefused refusal
   pub header-only : (bytes : List ℕ) (refusal : Refusal) → headerRead bytes ≡ HeaderRefused refusal → FirstApplies (bytesCases bytes) refusal
   pub from-header : (bytes : List ℕ) (refusal : Refusal) → headerRead bytes ≡ HeaderRefused refusal → readChart bytes ≡ refused refusal
@@ -103,16 +104,20 @@ pub record ReadingRefusals : Type 0 where
   -- rule 3.4: 64 blocks are the most
   pub few-blocks : (bytes : List ℕ) (chart : Chart) → readChart bytes ≡ accepted chart → blockCount chart ≤ mostBlocks
 
--- Rule 11.11 turned round, as a statement: each of the five buffers has the places that rule 12.2 uses.
+-- Rule 11.11 turned round, as a statement: each of the three lists of a table has the places that rule 12.2 uses.
+pub record TableRoom (chart : Chart) (table : Lent) : Type 0 where
+  pub must : chart .header .nodes * blockCount chart ≤ length (table .must)
+  pub may : chart .header .nodes * blockCount chart ≤ length (table .may)
+  pub marks : chart .header .nodes ≤ length (table .marks)
+
+-- Rule 11.11 in the same way, of all five buffers.
 pub record HasRoom (chart : Chart) (lent : Buffers) : Type 0 where
   pub blocks : blockCount chart ≤ length (lent .blocks)
-  pub must : chart .header .nodes * blockCount chart ≤ length (lent .must)
-  pub may : chart .header .nodes * blockCount chart ≤ length (lent .may)
-  pub marks : chart .header .nodes ≤ length (lent .marks)
+  pub table : TableRoom chart (tableIn lent)
   pub classes : chart .header .nodes ≤ length (lent .classes)
 
--- Rules 11.11, 11.12 and 12.3, of the analysis of an accepted chart: 11 if a buffer is short; else 12 if every pass that is allowed changes
--- something; else it settles.
+-- Rules 11.11, 11.12 and 12.3, of the analysis of an accepted chart: 11 if a buffer is short, which is where one has no room; else 12 if every pass
+-- that is allowed changes something; else it settles.
 pub record AnalysisRefusals (bytes : List ℕ) (chart : Chart) (allowance : ℕ) (lent : Buffers) : Type 0 where
   pub not-short : HasRoom chart lent → buffersShort (planOf chart) lent ≡ false
   pub has-room : buffersShort (planOf chart) lent ≡ false → HasRoom chart lent
@@ -124,8 +129,10 @@ pub record AnalysisRefusals (bytes : List ℕ) (chart : Chart) (allowance : ℕ)
       → (AllChange chart allowance → ⊥)
       → (passes : ℕ) × (analysed bytes allowance lent .answer ≡ Settled passes (blockCount chart))
 
--- Rules 11.11 and 12.5, of the checker of an accepted chart's table: 11 if it is short, else yes or no.
+-- Rules 11.11 and 12.5, of the checker of an accepted chart's table: 11 if it is short, which is where it has no room, else yes or no.
 pub record CheckerRefusals (bytes : List ℕ) (chart : Chart) (table : Lent) : Type 0 where
+  pub not-short : TableRoom chart table → tableShort (planOf chart) table ≡ false
+  pub has-room : tableShort (planOf chart) table ≡ false → TableRoom chart table
   pub short : tableShort (planOf chart) table ≡ true → checked bytes table ≡ CheckerRefused ShortBuffer
   pub answers : tableShort (planOf chart) table ≡ false → (checked bytes table ≡ Yes) ⊎ (checked bytes table ≡ No)
 

@@ -4,8 +4,8 @@
 -- (The ages are those of that analysis: `published`, of the definitions in cache/specs/Ages.antt, here over columns whose keys stand for their
 -- blocks' sets, as `keys-sets` and `sets-keys` say, in the shape that the bytes say, `shape-said`. That the analysis is refused only as rule 12.3
 -- lists is `Demand1.readings` and `Demand1.analysis`.)
--- It speaks of rules 1.2, 3.2, 4.6, 4.7, 6.2 to 6.6, 7.3, 7.7 to 7.9, 9.5, 9.6, 12.2, 12.4, 12.5, 13.2 and 13.3. Proved as `demand2`
--- in proofs/Demand2.antt.
+-- It speaks of rules 1.2, 3.2, 4.6, 4.7, 6.2 to 6.6, 7.3, 7.7 to 7.9, 9.5, 9.6, 12.2, 12.4, 12.5 and 13.1 to 13.3. Proved as
+-- `demand2` in proofs/Demand2.antt.
 use Prim.Native.Nat.{ℕ, suc, _+_, _*_, _%_, _^_, _≤_, _<_}
 use mathlib.Core.Path.{_≡_}
 use mathlib.Core.Bool.{true, false}
@@ -106,7 +106,7 @@ pub record Demand2 : Type 0 where
   pub program-settles : (input : List ℕ) (chart : Chart)
       → readChart (taken input) ≡ accepted chart
       → (passes : ℕ) × (analysed (taken input) allPasses (zeroBuffers mostNodes mostBlocks) .answer ≡ Settled passes (blockCount chart))
-  -- and the program prints the report of every accepted chart: it refuses none (rules 13.2 and 13.3)
+  -- so the program refuses no accepted chart (rules 13.1 to 13.3)
   pub program-accepts : (input : List ℕ) (chart : Chart) → readChart (taken input) ≡ accepted chart → refuses input ≡ false
   -- two allowances within which it settles agree in everything
   pub agree : (bytes : List ℕ) (one other passes passes′ blocks blocks′ : ℕ) (lent : Buffers)

@@ -13,3 +13,4 @@ pub mod Shared
 pub mod Edges
 pub mod Inner
 pub mod Examples
+pub mod Anywhere

@@ -5,7 +5,7 @@ use mathlib.Core.Path.{_≡_}
 use Prim.Native.Nat.{ℕ, _*_, _≤_, _<_}
 use mathlib.Core.Bool.{true, false, cond}
 use mathlib.Core.List.{List, [], _∷_, _++_, map}
-use lib.ListN.{length, getD, take}
+use lib.ListN.{length, getD}
 use Rattle.lists.specs.Soundings.{Hold}
 use Rattle.cache.specs.Plain.{emptyCache}
 use Rattle.lists.specs.Lists.{Among}
@@ -17,13 +17,13 @@ use Rattle.totals.specs.declared.Totals.the-variants.{Between}
 use Rattle.totals.specs.Totals.{totals}
 use Rattle.chart.specs.Geometry.{longestChart, passesFor, allPasses}
 use Rattle.chart.specs.Sounded.{chartFields, nodeCounts, twinArrows, ChartSounded}
-use Rattle.report.specs.Text.{decimal}
-use Rattle.report.specs.Report.{taken, classWord, nodeLine, report}
+use Rattle.report.specs.Report.{report}
 use Rattle.report.specs.Ending.{refuses, endingOf}
 use Rattle.chart.specs.Chart.{Chart}
 use Rattle.classes.specs.Class.{classBy}
 use Rattle.machine.specs.Machine.{plainMachine, Contents, costOf}
 use Rattle.demands.specs.Demand3.{OnWalk, VisitsWithin, AtEachNode}
+use Rattle.demands.specs.Anywhere.{Anywhere}
 use Rattle.demands.specs.Charts.{loopChart, loopReport}
 use Rattle.demands.specs.Soundings.{starred, after, loopFigures, loop, tenTurns}
 use Rattle.demands.specs.Refused.{damaged, unanalysed}
@@ -56,11 +56,10 @@ pub record Sounded : Type 0 where
   -- the loop's report, whole, and the numbers that the program goes by (rules 1.4, 9.6, 13.1 and 13.2)
   pub sample-report : report loopChart ≡ loopReport
   pub longest-chart : longestChart ≡ 8200
-  pub input-taken : (input : List ℕ) → taken input ≡ take 8201 input
   pub passes-allowed : allPasses ≡ 1049601
   pub passes-enough : passesFor 3 1 2 ≡ 16
-  -- the line of every node, however many there are (rule 14.2)
-  pub node-line : (classes : List ℕ) (n : ℕ) → nodeLine classes n ≡ decimal n ++ (32 ∷ []) ++ classWord (getD classes n 0) ++ (10 ∷ [])
+  -- and what is so at every node, place, length and number, however large
+  pub at-any-number : Anywhere
   -- how the program ends (rule 13.3): which inputs are refused, and the status of a report and of a refusal, written whole and not
   pub sample-not-refused : refuses loopChart ≡ false
   pub no-bytes-refused : refuses [] ≡ true

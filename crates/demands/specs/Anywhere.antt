@@ -1,0 +1,61 @@
+-- What is so at every node, place, length and number, however large. Soundings are of small charts: a rule that changes from some number on, in
+-- definition and code alike, would pass them all. The limits stand here as numbers, and not by name. Rules 1.4, 6.5, 8.1, 8.2, 11.0, 12.2, 13.1 to
+-- 13.3, 14.1, 14.2 and 14.4. `anywhere` in proofs/Anywhere.antt proves it.
+use Prim.Native.Nat.{ℕ, suc, _+_, _*_, _/_, _%_, _≤_, _<_}
+use mathlib.Core.List.{List, [], _∷_, _++_}
+use mathlib.Core.Path.{_≡_}
+use lib.ListN.{getD, take}
+use Rattle.lists.specs.Lists.{listOf, joined}
+use Rattle.refusals.specs.declared.Refusal.the-variants.{BrokenRecord, TooManyBlocks, FloorAboveCeiling, FloorAtUnmarked}
+use Rattle.refusals.specs.Refusals.{placeOf}
+use Rattle.chart.specs.Geometry.{mostNodes}
+use Rattle.flow.specs.Flow.{Cell, blank, holds, cellAt}
+use Rattle.cache.specs.Ages.{Ages, touchAges}
+use Rattle.ages.specs.declared.ColumnTouch.{ColumnTouch}
+use Rattle.ages.specs.Plan.{Plan, columnsOf, touchesIn, planFlow}
+use Rattle.layout.specs.Rows.{rowAt}
+use Rattle.classes.specs.Class.{classOf, nodeClass, tableClasses}
+use Rattle.analysis.specs.declared.Analysed.the-variants.{Settled}
+use Rattle.analysis.specs.Analysis.{Left, analysed}
+use Rattle.report.specs.Text.{nodesWord, blocksWord, passesWord, decimalBy, decimal}
+use Rattle.report.specs.Report.{taken, classWord, nodeLine, zeroBuffers, reportOf, reportLeft, report}
+use Rattle.report.specs.Ending.{refusedBy, refuses}
+
+-- Rules 1.4 and 13.2: what the analysis leaves of an input in the program's buffers, under the program's allowance.
+abbrev pub programLeft : List ℕ → Left
+programLeft input = analysed (taken input) 1049601 (zeroBuffers 1024 64)
+
+pub record Anywhere : Type 0 where
+  -- rules 1.4 and 13.1
+  pub most-nodes : mostNodes ≡ 1024
+  pub input-taken : (input : List ℕ) → taken input ≡ take 8201 input
+  -- rules 13.2 and 13.3: text and exit status go by one and the same analysis
+  pub report-made : (input : List ℕ) → report input ≡ reportLeft (taken input) (programLeft input)
+  pub refused-alike : (input : List ℕ) → refuses input ≡ refusedBy (programLeft input .answer)
+  -- rules 14.1 and 14.2: the first line, and then a line for each node
+  pub report-lines : (nodes passes blocks : ℕ) (classes : List ℕ)
+      → reportOf nodes classes (Settled passes blocks)
+      ≡ nodesWord ++ (32 ∷ []) ++ decimal nodes ++ (32 ∷ []) ++ blocksWord ++ (32 ∷ []) ++ decimal blocks ++ (32 ∷ [])
+      ++ passesWord ++ (32 ∷ []) ++ decimal passes ++ (10 ∷ [])
+      ++ joined (listOf nodes (nodeLine classes))
+  pub node-line : (classes : List ℕ) (n : ℕ) → nodeLine classes n ≡ decimal n ++ (32 ∷ []) ++ classWord (getD classes n 0) ++ (10 ∷ [])
+  -- rule 14.4: of at most 20 digits, the last one behind those of a tenth
+  pub most-digits : (n : ℕ) → decimal n ≡ decimalBy 20 n
+  pub one-digit : (digits n : ℕ) → n < 10 → decimalBy (suc digits) n ≡ (48 + n) ∷ []
+  pub last-digit : (digits n : ℕ) → 10 ≤ n → decimalBy (suc digits) n ≡ decimalBy digits (n / 10) ++ ((48 + n % 10) ∷ [])
+  -- rule 11.0: the node at fault
+  pub places : (n : ℕ)
+      → placeOf (BrokenRecord n) ∷ placeOf (TooManyBlocks n) ∷ placeOf (FloorAboveCeiling n) ∷ placeOf (FloorAtUnmarked n) ∷ []
+      ≡ n ∷ n ∷ n ∷ n ∷ []
+  -- rules 8.1 and 8.2: a node's class, whichever node it is
+  pub class-listed : (plan : Plan) (table : List (Cell Ages)) (n : ℕ) → n < plan .nodes → getD (tableClasses plan table) n 0 ≡ nodeClass plan n (cellAt table n)
+  pub class-unmarked : (plan : Plan) (n : ℕ) → nodeClass plan n blank ≡ 0
+  pub class-of-none : (plan : Plan) (n : ℕ) (a : Ages) → touchesIn plan n ≡ [] → nodeClass plan n (holds a) ≡ 4
+  pub class-of-touch : (plan : Plan) (n : ℕ) (a : Ages) (touch : ColumnTouch) → touchesIn plan n ≡ touch ∷ [] → nodeClass plan n (holds a) ≡ classOf plan touch a
+  -- rule 6.5: what a node does to the ages, whichever node it is
+  pub bare-step : (plan : Plan) (n : ℕ) (a : Ages) → touchesIn plan n ≡ [] → planFlow plan .step n a ≡ a
+  pub one-touch : (plan : Plan) (n : ℕ) (a : Ages) (touch : ColumnTouch)
+      → touchesIn plan n ≡ touch ∷ []
+      → planFlow plan .step n a ≡ touchAges (columnsOf plan) (touch .column) a
+  -- rule 12.2: where a node's ages stand
+  pub age-place : (count n column : ℕ) (buffer : List ℕ) → column < count → getD (rowAt count buffer n) column 0 ≡ getD buffer (n * count + column) 0

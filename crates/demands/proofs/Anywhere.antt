@@ -1,6 +1,5 @@
 -- What is so at every node and number: most of it by computing, for a node or a number that is not known.
-use Prim.Native.Nat.{ℕ}
-use mathlib.Core.Path.{_≡_, refl, ap}
+use mathlib.Core.Path.{refl}
 use borrow.Author.Tests.{lt-ltb, le-ltb}
 use Rattle.lists.proofs.Listed.{getD-listOf}
 use Rattle.report.specs.Report.{report}

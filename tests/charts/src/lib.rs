@@ -1,7 +1,7 @@
 //! Charts as bytes: the fields of rules 1.2 and 2.1 as plain numbers, allowed or not, and their packing.
 //!
-//! Nothing here but the random charts, and `twins`, which asks the second program, knows which values are allowed, so that a test can build
-//! any damage it likes.
+//! Nothing here but the random charts, the slowest ones, and `twins`, which asks the second program, knows which values are allowed, so that a
+//! test can build any damage it likes.
 
 mod chart;
 mod header;

@@ -19,13 +19,13 @@ static uint32_t blocks[VEILBUZZ_MOST_BLOCKS];
 static uint8_t must[VEILBUZZ_MOST_AGES];
 static uint8_t may[VEILBUZZ_MOST_AGES];
 static uint8_t marks[VEILBUZZ_MOST_NODES];
-static uint8_t classes[VEILBUZZ_MOST_NODES];
+static uint8_t classes[VEILBUZZ_MOST_CLASSES];
 
 static uint64_t header[VEILBUZZ_HEADER_LENGTH];
 static uint64_t answer[VEILBUZZ_LONGEST_ANSWER];
 
 /* The words in the order of the numbers VEILBUZZ_CLASS_UNREACHED to VEILBUZZ_CLASS_NONE. */
-static const char *const words[] = {"unreached", "always hits", "always misses", "cannot be told", "no reference"};
+static const char *const words[] = {"unreached", "always hits", "always misses", "cannot be told", "none"};
 
 static unsigned long long number(const uint64_t *list, int place) {
     return (unsigned long long)list[place];
@@ -54,8 +54,10 @@ int main(void) {
                          marks, sizeof marks, classes, sizeof classes, answer, VEILBUZZ_LONGEST_ANSWER) != 0)
         return refused("analyse");
     printf("settled in %llu passes\n", number(answer, VEILBUZZ_ANALYSE_PASSES));
-    for (node = 0; node < nodes; node++)
-        printf("node %u: %s\n", (unsigned)node, words[classes[node]]);
+    for (node = 0; node < nodes; node++) {
+        const uint8_t *const both = classes + VEILBUZZ_MOST_TOUCHES * node;
+        printf("node %u: %s, %s\n", (unsigned)node, words[both[0]], words[both[1]]);
+    }
 
     if (veilbuzz_check(chart, sizeof chart, must, sizeof must, may, sizeof may, marks, sizeof marks, answer, VEILBUZZ_LONGEST_ANSWER) != 0)
         return refused("check");

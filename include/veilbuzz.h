@@ -16,7 +16,8 @@
  *   - while a call runs, nobody else writes to what it was lent, and nobody else reads what it writes.
  * Costs and bounds have 16 bits: C cuts a larger number without a word, unless -Wconversion is given.
  *
- * Below, N is the chart's number of nodes, B its number of blocks, and A the ways in a set.
+ * Below, N is the chart's number of nodes, B its number of blocks, and A the ways in a set. A reference to one, two or four bytes touches the
+ * block of its first byte, and then that of its last byte if that is another; a bare step touches none.
  */
 #ifndef VEILBUZZ_H
 #define VEILBUZZ_H
@@ -37,7 +38,9 @@ enum {
     VEILBUZZ_MOST_NODES = 1024,
     VEILBUZZ_MOST_BLOCKS = 64,
     VEILBUZZ_MOST_WAYS = 8,
+    VEILBUZZ_MOST_TOUCHES = 2, /* of a node */
     VEILBUZZ_MOST_AGES = VEILBUZZ_MOST_NODES * VEILBUZZ_MOST_BLOCKS,
+    VEILBUZZ_MOST_CLASSES = VEILBUZZ_MOST_TOUCHES * VEILBUZZ_MOST_NODES,
     VEILBUZZ_LONGEST_CHART = 8 + 8 * VEILBUZZ_MOST_NODES, /* bytes */
     VEILBUZZ_ENOUGH_PASSES = VEILBUZZ_MOST_NODES * (1 + 2 * VEILBUZZ_MOST_BLOCKS * VEILBUZZ_MOST_WAYS) + 1
 };
@@ -87,14 +90,15 @@ enum {
     VEILBUZZ_START_EMPTY = 1
 };
 
-/* What `classes` says of a node: the first that applies of unreached, where its mark is 0; none, at a bare step; hit, where its block's
- * must age is below A; miss, where its may age is A; unsure. */
+/* What `classes` says of each touch that a node can make: the first that applies of unreached, where the node's mark is 0; none, where it
+ * makes no such touch, so for both at a bare step and for the second at a reference within one line; hit, where the block's must age is
+ * below A; miss, where its may age is A; unsure. The ages are those just before the touch: on arrival, and for the second after the first. */
 enum {
     VEILBUZZ_CLASS_UNREACHED = 0, /* no walk comes here */
-    VEILBUZZ_CLASS_HIT = 1,       /* the reference always hits */
-    VEILBUZZ_CLASS_MISS = 2,      /* the reference always misses */
+    VEILBUZZ_CLASS_HIT = 1,       /* the touch always hits */
+    VEILBUZZ_CLASS_MISS = 2,      /* the touch always misses */
     VEILBUZZ_CLASS_UNSURE = 3,    /* it cannot be told */
-    VEILBUZZ_CLASS_NONE = 4       /* a bare step: there is no reference */
+    VEILBUZZ_CLASS_NONE = 4       /* there is no such touch */
 };
 
 /* The refusals, rules 11.1 to 11.17 of docs/RULES.md, looked for one after another as they stand here; what is found first is given. Only
@@ -109,12 +113,13 @@ enum {
  *    6   its entry is not below N                               0            name a node that there is
  *    7   a spare bit of the header is set                       0            clear it
  *    8   it is not 8 + 8 N bytes long                           0            cut it, or add the missing records
- *    9   a record is not as rules 2.1, 2.3, 2.4, 2.6 and 2.9    that node    mend that node's record; if both its arrows lead to
- *        have it                                                             one node: one arrow, or the other target
+ *    9   a record is not as rules 2.1, 2.3, 2.4, 2.9, 2.11      that node    mend that node's record; if both its arrows lead to
+ *        and 2.12 have it                                                    one node: one arrow, or the other target; if its last
+ *                                                                            byte is past the last address: a smaller size
  *   10   it has more blocks than VEILBUZZ_MOST_BLOCKS: the      that node    split the chart
  *        node, in node order, that brings the first too many
- *   11   a buffer has fewer places than are used, and is        0            lend N, B or N * B elements, as said below, and
- *        neither floors nor ceilings                                         the lengths named above for `answer` and `header`
+ *   11   a buffer has fewer places than are used, and is        0            lend N, 2 * N, B or N * B elements, as said below,
+ *        neither floors nor ceilings                                         and the lengths named above for `answer` and `header`
  *   12   every pass of the allowance has changed something      0            allow VEILBUZZ_ENOUGH_PASSES
  *   13   the table does not pass                                0            lend the one that veilbuzz_analyse wrote
  *   14   there are not just N floors, or not just N ceilings    0            one number for each node
@@ -134,7 +139,7 @@ uint64_t veilbuzz_read(const uint8_t *chart, size_t chart_length,
  *   N * B  of `must` and of `may`: on arrival at node n the age of blocks[k] is never above must[n * B + k] nor below may[n * B + k]; an
  *          age is 0 for the youngest, A for a block that is not there; the rows of unmarked nodes are 0
  *   N      of `marks`: 1 where a walk comes, else 0
- *   N      of `classes`: see above
+ *   2 * N  of `classes`: two for each node, the first touch's first; see above
  * Marks and ages are the tightest of all tables that pass (rules 7.7 and 7.8), and passes are made and counted by rules 9.1 to 9.5.
  * Longer buffers keep their tails, and what these held before does not matter. After refusals 1 to 11 none of the five has changed. After
  * 12 the blocks are written and the other used parts are 0, which then says nothing of the chart. */
@@ -156,12 +161,12 @@ uint64_t veilbuzz_check(const uint8_t *chart, size_t chart_length,
                         const uint8_t *marks, size_t marks_length,
                         uint64_t *answer, size_t answer_length);
 
-/* The two totals of a table that passes: refusals 1 to 11 and 13 to 17. They are sums over the references of marked nodes (rules 10.2 and
- * 10.3): the high one of ceilings, each times `hit` where the class is hit and times `miss` where it is not; the low one of floors, each
- * times `miss` where the class is miss and times `hit` where it is not. So take a walk from the chart's entry and start that comes to each
- * node no fewer times than its floor and no more than its ceiling, and pays `hit` for each hit, `miss` for each miss and nothing at a bare
- * step: what it costs lies between the low and the high total, both included. The table is read as veilbuzz_check reads it. It writes
- * `answer` alone. */
+/* The two totals of a table that passes: refusals 1 to 11 and 13 to 17. They are sums over the touches of marked nodes (rules 10.2 and
+ * 10.3): the high one of ceilings, each times `hit` where the touch's class is hit and times `miss` where it is not; the low one of floors,
+ * each times `miss` where the class is miss and times `hit` where it is not. So take a walk from the chart's entry and start that comes to
+ * each node no fewer times than its floor and no more than its ceiling, and pays for each touch, `hit` if it hits and `miss` if it misses,
+ * and nothing at a bare step: what it costs lies between the low and the high total, both included. The table is read as veilbuzz_check
+ * reads it. It writes `answer` alone. */
 uint64_t veilbuzz_total(const uint8_t *chart, size_t chart_length,
                         const uint8_t *must, size_t must_length,
                         const uint8_t *may, size_t may_length,

@@ -9,7 +9,7 @@
 static uint8_t chart[VEILBUZZ_LONGEST_CHART + 8];
 static uint32_t blocks[VEILBUZZ_MOST_BLOCKS];
 static uint8_t must[VEILBUZZ_MOST_AGES], may[VEILBUZZ_MOST_AGES];
-static uint8_t marks[VEILBUZZ_MOST_NODES], classes[VEILBUZZ_MOST_NODES];
+static uint8_t marks[VEILBUZZ_MOST_NODES], classes[VEILBUZZ_MOST_CLASSES];
 static uint64_t header[VEILBUZZ_HEADER_LENGTH], answer[VEILBUZZ_LONGEST_ANSWER];
 static int wrong;
 
@@ -47,6 +47,11 @@ static uint64_t analyse(size_t nodes, size_t allowance) {
                             sizeof marks, classes, sizeof classes, answer, VEILBUZZ_LONGEST_ANSWER);
 }
 
+/* The class of a node's first touch, 0, or second, 1. */
+static uint8_t class_of(size_t n, size_t touch) {
+    return classes[VEILBUZZ_MOST_TOUCHES * n + touch];
+}
+
 /* Seven nodes: 4 misses, 5 hits, 6 has no reference, 0 loops on itself and is unsure, and no walk comes to 1, 2 and 3. */
 static void seven(uint64_t start) {
     head(start, 7, 4);
@@ -62,17 +67,20 @@ static void answers(void) {
     IS(analyse(7, VEILBUZZ_ENOUGH_PASSES), 0);
     IS(answer[VEILBUZZ_ANALYSE_PASSES], 3);
     IS(answer[VEILBUZZ_ANALYSE_BLOCKS], 2);
-    IS(classes[0], VEILBUZZ_CLASS_UNSURE);
-    IS(classes[1], VEILBUZZ_CLASS_UNREACHED);
-    IS(classes[4], VEILBUZZ_CLASS_MISS);
-    IS(classes[5], VEILBUZZ_CLASS_HIT);
-    IS(classes[6], VEILBUZZ_CLASS_NONE);
+    IS(class_of(0, 0), VEILBUZZ_CLASS_UNSURE);
+    IS(class_of(1, 0), VEILBUZZ_CLASS_UNREACHED);
+    IS(class_of(1, 1), VEILBUZZ_CLASS_UNREACHED);
+    IS(class_of(4, 0), VEILBUZZ_CLASS_MISS);
+    IS(class_of(4, 1), VEILBUZZ_CLASS_NONE);
+    IS(class_of(5, 0), VEILBUZZ_CLASS_HIT);
+    IS(class_of(6, 0), VEILBUZZ_CLASS_NONE);
+    IS(class_of(6, 1), VEILBUZZ_CLASS_NONE);
     IS(veilbuzz_check(chart, 64, must, 14, may, 14, marks, 7, answer, VEILBUZZ_LONGEST_ANSWER), 0);
     IS(answer[VEILBUZZ_CHECK_YES], 1);
     IS(veilbuzz_total(chart, 64, must, 14, may, 14, marks, 7, 1, 10, floors, 7, ceilings, 7, answer, VEILBUZZ_LONGEST_ANSWER), 0);
     IS(answer[VEILBUZZ_TOTAL_LOW], 12);
     IS(answer[VEILBUZZ_TOTAL_HIGH], 101);
-    chart[8 * (3 + 1) + 7] = 1; /* a spare bit of node 3 */
+    chart[8 * (3 + 1) + 7] = 1; /* a size at node 3, a bare step */
     IS(read_chart(7), 9);
     IS(answer[VEILBUZZ_ANSWER_NUMBER], 9);
     IS(answer[VEILBUZZ_ANSWER_PLACE], 3);
@@ -88,12 +96,30 @@ static void headers(void) {
     IS(header[VEILBUZZ_HEADER_NODES], 7);
     IS(header[VEILBUZZ_HEADER_ENTRY], 4);
     IS(analyse(7, VEILBUZZ_ENOUGH_PASSES), 0);
-    IS(classes[4], VEILBUZZ_CLASS_MISS); /* from an empty cache */
+    IS(class_of(4, 0), VEILBUZZ_CLASS_MISS); /* from an empty cache */
     seven(VEILBUZZ_START_UNKNOWN);
     IS(read_chart(7), 0);
     IS(header[VEILBUZZ_HEADER_START], VEILBUZZ_START_UNKNOWN);
     IS(analyse(7, VEILBUZZ_ENOUGH_PASSES), 0);
-    IS(classes[4], VEILBUZZ_CLASS_UNSURE); /* from one that may have the block */
+    IS(class_of(4, 0), VEILBUZZ_CLASS_UNSURE); /* from one that may have the block */
+}
+
+/* Four bytes over the end of a line, and once more: both touches miss, and then both hit. */
+static void touches(void) {
+    static const uint16_t once[] = {1, 1};
+    head(VEILBUZZ_START_EMPTY, 2, 0);
+    node(0, 1, 0x1E, 1, 1);
+    node(1, 1, 0x1E, 0, 0);
+    chart[8 * (0 + 1) + 7] |= 2;
+    chart[8 * (1 + 1) + 7] |= 2;
+    IS(analyse(2, VEILBUZZ_ENOUGH_PASSES), 0);
+    IS(answer[VEILBUZZ_ANALYSE_BLOCKS], VEILBUZZ_MOST_TOUCHES);
+    IS(class_of(0, 0), VEILBUZZ_CLASS_MISS);
+    IS(class_of(0, 1), VEILBUZZ_CLASS_MISS);
+    IS(class_of(1, 0), VEILBUZZ_CLASS_HIT);
+    IS(class_of(1, 1), VEILBUZZ_CLASS_HIT);
+    IS(veilbuzz_total(chart, 24, must, 4, may, 4, marks, 2, 1, 10, once, 2, once, 2, answer, VEILBUZZ_LONGEST_ANSWER), 0);
+    IS(answer[VEILBUZZ_TOTAL_HIGH], 22);
 }
 
 /* With one place fewer than its length 11 is returned, and no list has changed; with just so many a list has the number that is told last. */
@@ -118,11 +144,11 @@ static void lengths(void) {
         }
         memset(answer, 0xFF, sizeof answer);
         memset(classes, 0xFF, sizeof classes);
-        IS(veilbuzz_analyse(chart, 64, VEILBUZZ_ENOUGH_PASSES, blocks, 2, must, 14, may, 14, marks, 7, classes, 7, answer,
+        IS(veilbuzz_analyse(chart, 64, VEILBUZZ_ENOUGH_PASSES, blocks, 2, must, 14, may, 14, marks, 7, classes, 14, answer,
                             VEILBUZZ_ANALYSE_LENGTH - less), number);
         IS(answer[0], less ? UINT64_MAX : 0);
         IS(answer[VEILBUZZ_ANALYSE_LENGTH - 1], less ? UINT64_MAX : 2);
-        IS(classes[4], less ? 0xFF : VEILBUZZ_CLASS_MISS);
+        IS(class_of(4, 0), less ? 0xFF : VEILBUZZ_CLASS_MISS);
         memset(answer, 0xFF, sizeof answer);
         IS(veilbuzz_check(chart, 64, must, 14, may, 14, marks, 7, answer, VEILBUZZ_CHECK_LENGTH - less), number);
         IS(answer[0], less ? UINT64_MAX : 0);
@@ -155,8 +181,8 @@ static void limits(void) {
 
 /* The limits are the second program's, which are handed in. */
 static void same(char **numbers) {
-    static const uint64_t named[] = {VEILBUZZ_MOST_NODES, VEILBUZZ_MOST_BLOCKS,   VEILBUZZ_MOST_WAYS,
-                                     VEILBUZZ_MOST_AGES,  VEILBUZZ_LONGEST_CHART, VEILBUZZ_ENOUGH_PASSES};
+    static const uint64_t named[] = {VEILBUZZ_MOST_NODES, VEILBUZZ_MOST_BLOCKS,  VEILBUZZ_MOST_WAYS,     VEILBUZZ_MOST_TOUCHES,
+                                     VEILBUZZ_MOST_AGES,  VEILBUZZ_MOST_CLASSES, VEILBUZZ_LONGEST_CHART, VEILBUZZ_ENOUGH_PASSES};
     size_t k;
     for (k = 0; k < sizeof named / sizeof *named; k++)
         is("a limit of include/veilbuzz.h", named[k], strtoull(numbers[k], NULL, 10));
@@ -165,10 +191,11 @@ static void same(char **numbers) {
 int main(int count, char **numbers) {
     answers();
     headers();
+    touches();
     lengths();
     limits();
-    if (count != 7) {
-        printf("constants: hand in the six limits\n");
+    if (count != 9) {
+        printf("constants: hand in the eight limits\n");
         return 2;
     }
     same(numbers + 1);

@@ -3,7 +3,7 @@
 //!
 //!     VEILBUZZ_ARCHIVE=$(tests/archive) cargo run --manifest-path tests/Cargo.toml -p veilbuzz --example loop
 
-use veilbuzz::{analyse, check, read, total, Bounds, Buffers, Class, Costs, Refusal, Table, PASSES};
+use veilbuzz::{analyse, check, read, total, Bounds, Buffers, Class, Costs, Refusal, Table, PASSES, TOUCHES};
 
 #[rustfmt::skip]
 const CHART: [u8; 32] = [
@@ -18,7 +18,7 @@ fn main() -> Result<(), Refusal> {
     let ages = header.nodes * header.blocks;
     let mut blocks = vec![0; header.blocks];
     let (mut must, mut may) = (vec![0; ages], vec![0; ages]);
-    let (mut marks, mut classes) = (vec![0; header.nodes], vec![0; header.nodes]);
+    let (mut marks, mut classes) = (vec![0; header.nodes], vec![0; TOUCHES * header.nodes]);
     let lent = Buffers {
         blocks: &mut blocks,
         must: &mut must,
@@ -31,11 +31,10 @@ fn main() -> Result<(), Refusal> {
         "nodes {} blocks {} passes {}",
         header.nodes, settled.blocks, settled.passes
     );
-    for (node, &class) in classes.iter().enumerate() {
-        println!(
-            "{node} {}",
-            Class::of(class).expect("the analysis writes classes 0 to 4")
-        );
+    for (node, both) in classes.chunks(TOUCHES).enumerate() {
+        let [first, second] =
+            [both[0], both[1]].map(|class| Class::of(class).expect("the analysis writes classes 0 to 4"));
+        println!("{node} {first} {second}");
     }
 
     let table = Table {

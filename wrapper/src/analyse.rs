@@ -14,7 +14,7 @@ pub struct Buffers<'a> {
     pub may: &'a mut [u8],
     /// 1 where a walk comes, else 0: N are used.
     pub marks: &'a mut [u8],
-    /// The numbers of the classes, as [`Class::of`](crate::Class::of) reads them: N are used.
+    /// The numbers of the classes, as [`Class::of`](crate::Class::of) reads them, two for each node, the first touch's first: 2 * N are used.
     pub classes: &'a mut [u8],
 }
 

@@ -1,4 +1,4 @@
-use crate::{analyse, read, Buffers, Class, Header, Refusal, Table, PASSES};
+use crate::{analyse, read, Buffers, Class, Header, Refusal, Table, PASSES, TOUCHES};
 
 /// A settled analysis in buffers of its own, just as long as used.
 #[derive(Clone, Debug, PartialEq, Eq)]
@@ -8,8 +8,8 @@ pub struct Analysis {
     pub passes: usize,
     /// The block numbers, ascending.
     pub blocks: Vec<u32>,
-    /// What is known of each node.
-    pub classes: Vec<Class>,
+    /// What is known of each node's first touch, and of its second.
+    pub classes: Vec<[Class; TOUCHES]>,
     must: Vec<u8>,
     may: Vec<u8>,
     marks: Vec<u8>,
@@ -24,7 +24,7 @@ impl Analysis {
         let mut must = vec![0; nodes * blocks];
         let mut may = vec![0; nodes * blocks];
         let mut marks = vec![0; nodes];
-        let mut classes = vec![0; nodes];
+        let mut classes = vec![0; TOUCHES * nodes];
         let lent = Buffers {
             blocks: &mut list,
             must: &mut must,
@@ -33,12 +33,13 @@ impl Analysis {
             classes: &mut classes,
         };
         let settled = analyse(chart, PASSES, lent)?;
-        let class = |&number| Class::of(number).expect("the analysis writes classes 0 to 4");
+        let class = |number| Class::of(number).expect("the analysis writes classes 0 to 4");
+        let both = |node| [0, 1].map(|touch| class(classes[TOUCHES * node + touch]));
         Ok(Analysis {
             header,
             passes: settled.passes,
             blocks: list,
-            classes: classes.iter().map(class).collect(),
+            classes: (0..nodes).map(both).collect(),
             must,
             may,
             marks,

@@ -1,17 +1,18 @@
 use std::fmt;
 
-/// What is known of a node. The numbers are those of rule 8.1, the words those of rule 14.2.
+/// What is known of a touch. A node has two classes, one for each touch that it can make. The numbers are those of rule 8.1, the words those of
+/// rule 14.2.
 #[derive(Clone, Copy, Debug, PartialEq, Eq)]
 pub enum Class {
     /// No walk comes here.
     Unreached = 0,
-    /// The reference always hits.
+    /// The touch always hits.
     Hit = 1,
-    /// The reference always misses.
+    /// The touch always misses.
     Miss = 2,
     /// It cannot be told.
     Unsure = 3,
-    /// A bare step: there is no reference.
+    /// The node makes no such touch: no first one at a bare step, and a second one only where a reference goes into a second block.
     None = 4,
 }
 

@@ -9,7 +9,8 @@
 //! The archive that is linked, libboundary.a, is looked for in the folder that VEILBUZZ_ARCHIVE names, or else in target/archive;
 //! `tests/archive` makes it and prints its folder.
 //!
-//! Below, N is the number of a chart's nodes, B the number of its blocks, A the ways of a set.
+//! Below, N is the number of a chart's nodes, B the number of its blocks, A the ways of a set. A reference touches the block of its first byte,
+//! and then that of its last byte if that is another.
 
 mod analyse;
 mod analysis;
@@ -26,7 +27,7 @@ pub use analyse::{analyse, Buffers, Settled, Unsettled};
 pub use analysis::Analysis;
 pub use check::{check, Table};
 pub use class::Class;
-pub use limits::{AGES, BLOCKS, LONGEST, NODES, PASSES, WAYS};
+pub use limits::{AGES, BLOCKS, CLASSES, LONGEST, NODES, PASSES, TOUCHES, WAYS};
 pub use read::{read, Header, Start};
 pub use refusal::Refusal;
 pub use total::{total, Bounds, Costs, Totals};

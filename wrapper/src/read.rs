@@ -25,7 +25,7 @@ pub struct Header {
     pub nodes: usize,
     /// The node that every walk begins at.
     pub entry: usize,
-    /// B: how many blocks the references touch.
+    /// B: how many blocks the references touch, with their first bytes and with their last.
     pub blocks: usize,
 }
 

@@ -34,12 +34,13 @@ const WORDS: [[&str; 2]; 17] = [
     ],
     [
         "a record breaks its rules",
-        "mend that node's record; if both its arrows lead to one node: one arrow, or the other target",
+        "mend that node's record; if both its arrows lead to one node: one arrow, or the other target; \
+         if its last byte is past the last address: a smaller size",
     ],
     ["the chart has over BLOCKS blocks", "split the chart"],
     [
         "a lent buffer is shorter than used",
-        "lend N, B or N * B elements, as the function says",
+        "lend N, 2 * N, B or N * B elements, as the function says",
     ],
     ["the passes that were allowed are too few", "allow PASSES passes"],
     ["the table does not pass", "lend the one that the analysis wrote"],

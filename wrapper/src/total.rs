@@ -17,7 +17,7 @@ pub struct Bounds<'a> {
     pub ceilings: &'a [u16],
 }
 
-/// Two bounds: a walk that keeps within its floors and ceilings costs no less than `low` and no more than `high`.
+/// Two bounds: a walk that keeps within its floors and ceilings, and pays for each touch, costs no less than `low` and no more than `high`.
 #[derive(Clone, Copy, Debug, PartialEq, Eq)]
 pub struct Totals {
     pub low: u64,

@@ -2,8 +2,8 @@
 
 mod lent;
 
-use charts::Chart;
-use lent::{chart, Lent, AGES, BLOCKS, NODES};
+use charts::{Chart, Record};
+use lent::{chart, Lent, AGES, BLOCKS, CLASSES, NODES};
 use veilbuzz::{analyse, Analysis, Class, Refusal, Settled, Unsettled, PASSES};
 
 fn refusal(number: usize, place: usize) -> Result<Settled, Unsettled> {
@@ -31,7 +31,7 @@ fn each_buffer_has_its_own_length() {
         |lent| lent.must.truncate(AGES - 1),
         |lent| lent.may.truncate(AGES - 1),
         |lent| lent.marks.truncate(NODES - 1),
-        |lent| lent.classes.truncate(NODES - 1),
+        |lent| lent.classes.truncate(CLASSES - 1),
     ];
     for shorten in shortened {
         let mut before = Lent::fresh();
@@ -43,7 +43,7 @@ fn each_buffer_has_its_own_length() {
         lent.must.truncate(AGES);
         lent.may.truncate(AGES);
         lent.marks.truncate(NODES);
-        lent.classes.truncate(NODES);
+        lent.classes.truncate(CLASSES);
     };
     let mut settled = Lent::settled();
     exact(&mut settled);
@@ -63,7 +63,7 @@ fn the_allowance_counts() {
     unsettled.must[..AGES].fill(0);
     unsettled.may[..AGES].fill(0);
     unsettled.marks[..NODES].fill(0);
-    unsettled.classes[..NODES].fill(0);
+    unsettled.classes[..CLASSES].fill(0);
     assert_eq!(lent, unsettled);
     assert_eq!(
         analyse(&chart(), 2, lent.buffers()),
@@ -75,7 +75,8 @@ fn the_allowance_counts() {
 #[test]
 fn a_refused_chart_changes_nothing() {
     let mut bytes = chart();
-    bytes[8 + 8 * 2 + 7] |= 1;
+    // size code 3
+    bytes[8 + 8 * 2 + 7] |= 3;
     let mut lent = Lent::fresh();
     assert_eq!(analyse(&bytes, PASSES, lent.buffers()), refusal(9, 2));
     assert_eq!(lent, Lent::fresh());
@@ -97,10 +98,38 @@ fn an_analysis_with_buffers_of_its_own_has_the_same() {
     );
     assert_eq!(
         analysis.classes,
-        [Class::Unsure, Class::Unsure, Class::Hit, Class::Unreached]
+        [
+            [Class::Unsure, Class::None],
+            [Class::Unsure, Class::None],
+            [Class::Hit, Class::None],
+            [Class::Unreached, Class::Unreached]
+        ]
     );
     assert_eq!((analysis.header.nodes, analysis.header.blocks), (NODES, BLOCKS));
     assert_eq!(Analysis::of(&chart()[..7]).map_err(|refused| refused.number), Err(1));
+}
+
+#[test]
+fn each_touch_of_a_node_has_a_class() {
+    // four bytes over the end of a line, and then a byte on either side of it: two sets of one way, empty
+    let records = vec![
+        Record::read(0x0E).sized(2),
+        Record::read(0x0F),
+        Record::read(0x1E).sized(2),
+        Record::step(),
+    ];
+    let chart = Chart::of(records).in_a_row().shaped(1, 1, 1).bytes();
+    let analysis = Analysis::of(&chart).expect("the chart is accepted");
+    assert_eq!(analysis.blocks, [0, 1, 2]);
+    assert_eq!(
+        analysis.classes,
+        [
+            [Class::Miss, Class::Miss],
+            [Class::Hit, Class::None],
+            [Class::Hit, Class::Miss],
+            [Class::None, Class::None]
+        ]
+    );
 }
 
 #[test]

@@ -49,6 +49,7 @@ fn each_part_has_its_own_length() {
 fn the_chart_counts() {
     let mut bytes = chart();
     assert_eq!(check(&bytes[..7], Lent::settled().table()), refusal(1, 0));
-    bytes[8 + 8 * 3 + 7] |= 1;
+    // size code 3
+    bytes[8 + 8 * 3 + 7] |= 3;
     assert_eq!(check(&bytes, Lent::settled().table()), refusal(9, 3));
 }

@@ -28,6 +28,6 @@ fn the_loop_prints_its_classes_and_its_totals() {
     );
     assert_eq!(
         String::from_utf8_lossy(&output.stdout),
-        "nodes 3 blocks 1 passes 2\n0 none\n1 unsure\n2 hit\nthe table passes: true\ntotals 2 and 101\n"
+        "nodes 3 blocks 1 passes 2\n0 none none\n1 unsure none\n2 hit none\nthe table passes: true\ntotals 2 and 101\n"
     );
 }

@@ -46,12 +46,22 @@ fn the_length_of_the_bytes_counts() {
 #[test]
 fn a_refusal_tells_its_number_and_its_place() {
     let mut chart = chart();
-    chart.records[5].spare = 1;
+    chart.records[5].size = 3;
     assert_eq!(read(&chart.bytes()), refusal(9, 5));
     chart.records[3] = chart.records[3].twins(4);
     assert_eq!(read(&chart.bytes()), refusal(9, 3));
     let many: Vec<u64> = (0..BLOCKS as u64 + 6).map(|block| block * 16).collect();
     assert_eq!(read(&Chart::reads(&many).bytes()), refusal(10, BLOCKS));
+}
+
+#[test]
+fn the_last_byte_brings_a_block_and_has_an_address() {
+    let of_size = |address: u64, size| read(&Chart::of(vec![Record::read(address).sized(size)]).bytes());
+    let blocks = |address, size| of_size(address, size).map(|header| header.blocks);
+    assert_eq!([0, 1, 2].map(|size| blocks(0x0E, size)), [Ok(1), Ok(1), Ok(2)]);
+    assert_eq!(blocks(0xFFFF_FFFC, 2), Ok(1));
+    assert_eq!(of_size(0xFFFF_FFFD, 2), refusal(9, 0));
+    assert_eq!(of_size(0xFFFF_FFFF, 1), refusal(9, 0));
 }
 
 #[test]

@@ -2,8 +2,9 @@
 
 mod lent;
 
+use charts::{Chart, Record};
 use lent::{chart, Lent, AGES, NODES};
-use veilbuzz::{total, Bounds, Costs, Refusal, Totals};
+use veilbuzz::{total, Analysis, Bounds, Costs, Refusal, Totals};
 
 /// What the totals are asked with. Of the settled table two references are unsure, then one hits, and the last is unreached.
 #[derive(Clone, Debug, PartialEq)]
@@ -43,6 +44,19 @@ fn refusal(number: usize, place: usize) -> Result<Totals, Refusal> {
 fn the_totals_are_the_sums() {
     let (low, high) = (3 * (1 + 2 + 3), 1000 * (10 + 20) + 3 * 60_000);
     assert_eq!(after(|_| ()), Ok(Totals { low, high }));
+}
+
+#[test]
+fn each_touch_is_paid() {
+    // four bytes over the end of a line, in one set of one way, unknown: the first touch is unsure, the second misses
+    let chart = Chart::of(vec![Record::read(0x0E).sized(2)]).shaped(0, 1, 0).bytes();
+    let analysis = Analysis::of(&chart).expect("the chart is accepted");
+    let bounds = Bounds {
+        floors: &[3],
+        ceilings: &[5],
+    };
+    let totals = total(&chart, analysis.table(), Costs { hit: 1, miss: 10 }, bounds);
+    assert_eq!(totals, Ok(Totals { low: 33, high: 100 }));
 }
 
 #[test]
@@ -102,5 +116,6 @@ fn each_part_of_the_table_counts() {
 #[test]
 fn the_chart_counts() {
     assert_eq!(after(|question| question.chart.truncate(7)), refusal(1, 0));
-    assert_eq!(after(|question| question.chart[8 + 8 + 7] |= 1), refusal(9, 1));
+    // size code 3
+    assert_eq!(after(|question| question.chart[8 + 8 + 7] |= 3), refusal(9, 1));
 }

@@ -11,7 +11,8 @@ fn a_refusal_says_its_number_its_place_what_was_found_and_what_to_do() {
     assert_eq!(
         refusal(9, 2),
         "refused 9 at 2: a record breaks its rules \
-         (mend that node's record; if both its arrows lead to one node: one arrow, or the other target)"
+         (mend that node's record; if both its arrows lead to one node: one arrow, or the other target; \
+         if its last byte is past the last address: a smaller size)"
     );
     assert_eq!(
         refusal(1, 0),

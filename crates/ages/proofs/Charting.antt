@@ -20,8 +20,7 @@ use Rattle.chart.proofs.Allowed.{leads-in}
 use Rattle.chart.proofs.Accepted.{accepted-entry, accepted-arrows, accepted-column}
 use Rattle.cache.specs.Ages.{Ages}
 use Rattle.flow.specs.Walk.{Onward, Reached, inTurn}
-use Rattle.ages.specs.declared.ColumnTouch.{ColumnTouch}
-use Rattle.ages.specs.Plan.{PlanNode, Plan, nothing, columnsOf, touchesIn, arrowsIn, afterTouch, planFlow, Sound}
+use Rattle.ages.specs.Plan.{ColumnTouch, PlanNode, Plan, nothing, columnsOf, touchesIn, arrowsIn, afterTouch, planFlow, Sound}
 use Rattle.ages.specs.Charted.{columnOf, blockAt, setAt, keyAt, columnTouch, nodePlan, planOf, touchedBy, mostPasses}
 use Rattle.ages.specs.Limits.{LimitsWithin, enoughFor}
 

@@ -6,8 +6,7 @@ use Rattle.cache.specs.Ages.{Ages, Within, Tighter}
 use Rattle.cache.proofs.Touching.{touch-within, touch-monotone}
 use Rattle.flow.specs.Walk.{inTurn}
 use Rattle.flow.proofs.Turns.{inTurn-keeps}
-use Rattle.ages.specs.declared.ColumnTouch.{ColumnTouch}
-use Rattle.ages.specs.Plan.{Plan, columnsOf, touchesIn, afterTouch, planFlow, Sound}
+use Rattle.ages.specs.Plan.{ColumnTouch, Plan, columnsOf, touchesIn, afterTouch, planFlow, Sound}
 
 module _ (plan : Plan) (sound : Sound plan) (n : ℕ) (inside : n < plan .nodes) where
   afterTouch-within : (touch : ColumnTouch) → Among touch (touchesIn plan n) → (a : Ages) → Within (columnsOf plan) a → Within (columnsOf plan) (afterTouch plan touch a)

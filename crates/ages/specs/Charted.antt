@@ -17,8 +17,7 @@ use Rattle.chart.specs.Record.{Touch}
 use Rattle.chart.specs.Chart.{Chart, arrows, touches, blockCount}
 use Rattle.cache.specs.Ages.{Ages}
 use Rattle.flow.specs.Flow.{Flow}
-use Rattle.ages.specs.declared.ColumnTouch.{ColumnTouch}
-use Rattle.ages.specs.Plan.{PlanNode, Plan, afterTouch, planFlow}
+use Rattle.ages.specs.Plan.{ColumnTouch, PlanNode, Plan, afterTouch, planFlow}
 
 -- Rule 12.2: the ages of a node stand in the order of the blocks, so that a block's column is its place in their list.
 abbrev pub columnOf : Chart → ℕ → ℕ

@@ -1,6 +1,6 @@
 -- A plan: what ages, tables, classes and totals need of a chart, worked out once. A block is known by its column, its place in the chart's list of
--- blocks; nothing here knows of L, S or A, or of bytes. And the flow of a plan's ages: what passes, checker and totals work on. Rules 2.8, 6.5 and
--- 6.7, and by `flowBy` rules 6.6, 7.3, 7.5, 7.6, 7.8 and 9.4. A choice: past the last node nothing is touched and no arrow leads out.
+-- blocks; nothing here knows of L, S or A, or of bytes. And the flow of a plan's ages: what passes, checker and totals work on. Rules 2.8, 3.3, 6.5
+-- and 6.7, and by `flowBy` rules 6.6, 7.3, 7.5, 7.6, 7.8 and 9.4. A choice: past the last node nothing is touched and no arrow leads out.
 use Prim.Native.Nat.{ℕ, _<_}
 use mathlib.Core.Bool.{Bool}
 use mathlib.Core.List.{List, []}
@@ -10,7 +10,11 @@ use Rattle.lists.specs.Lists.{Among}
 use Rattle.cache.specs.Ages.{Columns, Ages, touchAges, meetAges, startAges, sameAges, Within, Tighter}
 use Rattle.flow.specs.Flow.{Flow}
 use Rattle.flow.specs.Walk.{inTurn}
-use Rattle.ages.specs.declared.ColumnTouch.{ColumnTouch}
+
+-- A touch of a column's block, and whether it is a write.
+pub record ColumnTouch : Type 0 where
+  pub column : ℕ
+  pub write : Bool
 
 -- What a node does: the touches that it makes, in turn, and the nodes that its arrows lead to, the first first.
 pub record PlanNode : Type 0 where
@@ -74,7 +78,7 @@ flowBy plan start step =
       Below = Tighter (columnsOf plan);
     }
 
--- Rule 6.5: a step is a node's touches in turn, so that a bare step, which has none, changes no age. Rule 6.7: the entry has the start before
+-- Rules 3.3 and 6.5: a step is a node's touches in turn, so that a bare step, which has none, changes no age. Rule 6.7: the entry has the start before
 -- the first pass, and what arrows bring is met into that.
 abbrev pub planFlow : Plan → Flow
 planFlow plan =

@@ -1,5 +1,5 @@
 -- From a chart that was read and drawn, and buffers that are long enough or not, to what the analysis is defined to answer and leave.
-use Prim.Native.Nat.{ℕ, _≤_}
+use Prim.Native.Nat.{ℕ, _*_, _≤_}
 use mathlib.Core.Bool.{Bool, true, false, cond}
 use mathlib.Core.List.{List}
 use mathlib.Core.Path.{_≡_, sym, ap, subst, _∙_}
@@ -7,6 +7,7 @@ use lib.ListN.{length, getD}
 use Rattle.lists.specs.Loops.{patch}
 use Rattle.refusals.specs.declared.Refusal.the-variants.{ShortBuffer}
 use Rattle.chart.specs.declared.headers.Header.{Header}
+use Rattle.chart.specs.Geometry.{mostTouches}
 use Rattle.chart.specs.Chart.{Chart, chartIn}
 use Rattle.chart.specs.Inner.{AcceptedAs}
 use Rattle.flow.specs.Pass.{settle}
@@ -55,7 +56,7 @@ module _ (bytes columns plan : List ℕ) (draws : Draws bytes columns plan) (hea
       pub plan-room : Roomy (nodesIn plan) (blocksIn plan) (buffers .must) (buffers .may) (buffers .marks)
       plan-room = table-room (planIn columns plan) buffers (sym tells ∙ is)
 
-      pub classes-room : nodesIn plan ≤ length (buffers .classes)
+      pub classes-room : mostTouches * nodesIn plan ≤ length (buffers .classes)
       classes-room = room-parts (planIn columns plan) buffers (sym tells ∙ is) .1 .1
 
       pub finishes-analysed : (blocks : List ℕ) → blocks ≡ patch (buffers .blocks) 0 count (λ k. getD list k 0)

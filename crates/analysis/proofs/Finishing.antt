@@ -1,5 +1,5 @@
 -- From what settling, clearing and classing leave in each buffer to what the analysis is defined to leave.
-use Prim.Native.Nat.{ℕ, zero, _≤_}
+use Prim.Native.Nat.{ℕ, zero, _*_, _≤_}
 use mathlib.Core.List.{List}
 use mathlib.Core.Path.{_≡_, sym, ap, subst, _∙_}
 use lib.ListN.{length, getD, replicate}
@@ -8,7 +8,7 @@ use Rattle.lists.specs.Loops.{patch}
 use Rattle.lists.proofs.Listed.{listOf-same, listOf-all}
 use Rattle.lists.proofs.Lists.{getD-padded}
 use Rattle.lists.proofs.Loops.{patch-written}
-use Rattle.chart.specs.Geometry.{mostBlocks}
+use Rattle.chart.specs.Geometry.{mostBlocks, mostTouches}
 use Rattle.cache.specs.Ages.{Ages}
 use Rattle.flow.specs.Flow.{Cell}
 use Rattle.flow.specs.Pass.{before, afterPasses}
@@ -62,13 +62,13 @@ module _ (plan : Plan) (lent begin : Lent) (begins : begin ≡ over plan (before
     -- A table that did not: zeros in its place, and for the classes.
     pub spent-left : settling ≡ Spent → classesUsed plan ≤ length classes
         → (zeros : Lent) → zeros ≡ blankOver plan left
-        → (nodes : ℕ) → nodes ≡ plan .nodes → (told : List ℕ) → told ≡ patch classes 0 nodes (λ j. 0)
+        → (nodes : ℕ) → nodes ≡ plan .nodes → (told : List ℕ) → told ≡ patch classes 0 (mostTouches * nodes) (λ j. 0)
         → Finishes plan allowance lent classes (Answer.Unsettled allowance count) zeros told
     unfolding finish
     spent-left is room zeros z nodes nodes-are told e list blocks =
         let made = subst (λ (r : Settling). SettledIn plan allowance begin r left) is done in
         let over-lent : zeros ≡ blankOver plan lent = z ∙ ap (blankOver plan) (left-over allowance (made .table)) ∙ over-over plan (afterPasses-fits plan allowance) (blanks-fit plan) lent in
-        let named : told ≡ written (replicate (classesUsed plan) zero) classes = e ∙ ap (λ (n : ℕ). patch classes 0 n (λ j. 0)) nodes-are ∙ zeros-written classes (classesUsed plan) room in
+        let named : told ≡ written (replicate (classesUsed plan) zero) classes = e ∙ ap (λ (n : ℕ). patch classes 0 (mostTouches * n) (λ j. 0)) nodes-are ∙ zeros-written classes (classesUsed plan) room in
         (λ i. record { answer = Answer.Unsettled allowance (count-is i); buffers = buffersBy (written list blocks) (over-lent i) (named i) })
         ∙ (λ i. record {
           answer = Answer.Unsettled allowance (plan .blocks);

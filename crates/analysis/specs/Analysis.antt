@@ -1,7 +1,7 @@
 -- What the analysis answers and what it leaves in each lent buffer, for any bytes, any allowance and any buffers. Rules 11.11, 11.12, 12.2 to 12.4
 -- and 12.8. Refusal 12 is an answer of its own, `Unsettled`, that carries the allowance and B: so what an answer says in numbers follows from the
 -- answer alone. `Refused` never carries it.
-use Prim.Native.Nat.{ℕ}
+use Prim.Native.Nat.{ℕ, _*_}
 use mathlib.Core.Bool.{Bool, _||_}
 use mathlib.Core.List.{List, [], _∷_}
 use lib.ListN.{length, replicate}
@@ -14,6 +14,7 @@ use Rattle.refusals.specs.declared.Refusal.{Refusal}
 use Rattle.refusals.specs.declared.Refusal.the-variants.{ShortBuffer}
 use Rattle.refusals.specs.declared.Refusal.the-variants as refusals
 use Rattle.refusals.specs.Refusals.{numberOf, placeOf}
+use Rattle.chart.specs.Geometry.{mostTouches}
 use Rattle.chart.specs.Chart.{Read, accepted, refused, readChart}
 use Rattle.cache.specs.Ages.{Ages}
 use Rattle.flow.specs.Flow.{Cell}
@@ -84,7 +85,7 @@ exitLeft blocks must may marks classes answer =
 
 -- Rule 12.2: how many classes are used.
 abbrev pub classesUsed : Plan → ℕ
-classesUsed plan = plan .nodes
+classesUsed plan = mostTouches * plan .nodes
 
 -- Rule 11.11, of the five buffers.
 abbrev pub buffersShort : Plan → Buffers → Bool

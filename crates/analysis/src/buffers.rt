@@ -12,6 +12,7 @@ ghost use Rattle.tables.specs.Lent.{over};
 ghost use Rattle.tables.specs.Contract.{entryTable, exitTable, RoomFor};
 ghost use Rattle.analysis.specs.Analysis.{buffersShort, entryBuffers};
 ghost use Rattle.analysis.specs.Inner.{sized, blankOver};
+use chart::Geometry;
 use rows::Row;
 
 // Whether one of the buffers has fewer places than a plan uses.
@@ -31,7 +32,7 @@ pub(crate) fn short_for(
     let count = plan::blocks_in(plan);
     let used = nodes * count;
     let table = (must.len() < used) | ((may.len() < used) | (marks.len() < nodes));
-    (blocks.len() < count) | (table | (classes.len() < nodes))
+    (blocks.len() < count) | (table | (classes.len() < Geometry::TOUCHES * nodes))
 }
 
 // Writes the first `count` blocks of the list into a lent buffer.

@@ -1,8 +1,9 @@
 // The analysis as a whole. It answers its pass count and B, and leaves the table that settled, with classes; or it refuses, with nothing lent changed
 // by 1 to 11, and zeros beside the block list by 12.
 ghost use mathlib.Core.Path.{_≡_};
-ghost use Prim.Native.Nat.{_≤_};
+ghost use Prim.Native.Nat.{_*_, _≤_};
 ghost use lib.ListN.{length};
+ghost use Rattle.chart.specs.Geometry.{mostTouches};
 ghost use Rattle.plan.specs.Listed.{nodesIn, DrawnIn, planAt};
 ghost use Rattle.tables.specs.Contract.{entryTable, exitTable, RoomFor};
 ghost use Rattle.analysis.specs.Analysis.{entryBuffers, exitLeft, analysed, analysedSays, analyseSays};
@@ -12,6 +13,7 @@ use crate::buffers::clear;
 use crate::buffers::short_for;
 use crate::buffers::start_table;
 use crate::buffers::write_blocks;
+use chart::Geometry;
 use chart::Verdict;
 use refusals::Refusal;
 use settling::Settling;
@@ -28,7 +30,7 @@ fn settle_table(
 ) -> Analysed
     requires { ⌜ DrawnIn columns plan ⌝ }
     requires { ⌜ RoomFor plan must may marks ⌝ }
-    requires { ⌜ nodesIn (now plan) ≤ length (now classes) ⌝ }
+    requires { ⌜ mostTouches * nodesIn (now plan) ≤ length (now classes) ⌝ }
     ensures { λ r. ⌜ Finishes (planAt columns plan) allowance (entryTable must may marks) (now (classes .entry)) r (exitTable must may marks) (now (classes .exit)) ⌝ }
 {
     let nodes = plan::nodes_in(plan);
@@ -45,7 +47,7 @@ fn settle_table(
         }
         Settling::Spent => {
             clear(plan, must, may, marks);
-            tables::fill(classes, 0, nodes, 0);
+            tables::fill(classes, 0, Geometry::TOUCHES * nodes, 0);
             Analysed::Unsettled {
                 allowance: allowance,
                 blocks: blocks,

@@ -1,7 +1,7 @@
 -- Lists laid into arrays: a block put in, and the blocks that nodes bring.
 use mathlib.Core.Bool.{true, false}
 use mathlib.Core.List.{List, [], _∷_, _++_}
-use mathlib.Core.Path.{_≡_, refl, sym, ap, _∙_}
+use mathlib.Core.Path.{_≡_, refl, sym, ap, subst, _∙_}
 use Prim.Native.Nat.{ℕ, suc, _+_, _-_, _≤_, _<_}
 use native.Mathlib.Numerals.{add-one}
 use native.Mathlib.Omega.{arith}
@@ -11,9 +11,10 @@ use lib.Seq.{paste, getD-take, length-take-le, take-append-le, drop-append-le, t
 use Rattle.lists.specs.Lists.{padded}
 use Rattle.lists.proofs.Lists.{length-padded, getD-padded}
 use Rattle.blocks.specs.Blocks.{insert, insertAll, gathered, overfull, placeIn}
-use Rattle.blocks.specs.Listing.{Ascending, Listing, Laid}
+use Rattle.blocks.specs.Listing.{Ascending, Listing, Laid, LaidAll}
 use Rattle.blocks.proofs.Search.{place-le}
-use Rattle.blocks.proofs.Insertion.{insert-there, insert-new, asc-gathered}
+use Rattle.blocks.proofs.Insertion.{insert-there, insert-new, asc-insert, asc-gathered}
+use Rattle.blocks.proofs.Exact.{insert-longer}
 
 -- ---- a list in an array
 
@@ -103,8 +104,38 @@ module _ (size count : ℕ) (array : List ℕ) (b p : ℕ) (given : Listing size
               ∙ ap (padded size) (sym put-between);
         }
 
-pub put-none : (size count : ℕ) (array : List ℕ) → Listing size count array → Laid size (take count array) count array
-put-none size count array given = record { count-is = sym (listing-length size count array given); laid = λ _. given .laid }
+-- ---- the blocks of one node: none, one, or a second after the first
+
+pub put-none : (size count : ℕ) (array : List ℕ) → Listing size count array → LaidAll size (take count array) count array
+put-none size count array given = record { count-is = λ _. sym (listing-length size count array given); laid = λ _. given .laid; over = λ k. absurd (omega (arith, given .short)) }
+
+pub put-one : (size : ℕ) (l : List ℕ) (count : ℕ) (array : List ℕ) → Laid size l count array → LaidAll size l count array
+put-one size l count array one = record { count-is = λ _. one .count-is; laid = one .laid; over = λ k. omega (arith, one .count-is) }
+
+module _ (size count : ℕ) (array : List ℕ) (b more : ℕ) (after : List ℕ) (given : Listing size count array) (first : Laid size (insert b (take count array)) more after) where
+  -- There was no room for the first, so there is none for both.
+  pub put-over-both : (c : ℕ) → size < more → LaidAll size (insertAll (b ∷ c ∷ []) (take count array)) more after
+  put-over-both c h =
+      record {
+        count-is = λ k. absurd (omega arith);
+        laid = λ k. absurd (omega arith);
+        over = λ _. omega (arith, first .count-is, insert-longer c (insert b (take count array)));
+      }
+
+  module _ (room : more ≤ size) where
+    list-ascends : Ascending (length (take count array)) (take count array)
+    list-ascends i j p q =
+        let far : j < count = omega (arith, listing-length size count array given) in
+        rw (getD-take count array i 0 (omega arith), getD-take count array j 0 far) (given .ascending i j p far)
+
+    pub put-listing : Listing size more after
+    put-listing =
+        laid-listing size more after (insert b (take count array)) room (first .count-is) (first .laid room)
+        (asc-insert b (take count array) list-ascends)
+
+    pub put-both : (c then : ℕ) (last : List ℕ) → Laid size (insert c (take more after)) then last → LaidAll size (insertAll (b ∷ c ∷ []) (take count array)) then last
+    put-both c then last second =
+        subst (λ (l : List ℕ). LaidAll size (insert c l) then last) (laid-take size more after (insert b (take count array)) (first .count-is) (first .laid room)) (put-one size (insert c (take more after)) then last second)
 
 -- ---- the blocks of all nodes
 
@@ -120,17 +151,17 @@ module _ (size : ℕ) (touches : ℕ → List ℕ) (n count : ℕ) (array : List
   pub gather-listing : Listing size count array
   gather-listing = laid-listing size count array (gathered touches n) short counted laid (asc-gathered touches n)
 
-  pub gather-more : (more : ℕ) (after : List ℕ) → Laid size (insertAll (touches n) (take count array)) more after → Laid size (gathered touches (n + 1)) more after
+  pub gather-more : (more : ℕ) (after : List ℕ) → LaidAll size (insertAll (touches n) (take count array)) more after → LaidAll size (gathered touches (n + 1)) more after
   gather-more more after h = rw (gathered-more touches n, ← laid-take size count array (gathered touches n) counted laid) h
 
-module _ (size : ℕ) (touches : ℕ → List ℕ) (n more : ℕ) (after : List ℕ) (given : Laid size (gathered touches (n + 1)) more after) where
-  then-many : more ≡ length (gathered touches (suc n))
-  then-many = given .count-is ∙ ap (λ (k : ℕ). length (gathered touches k)) (add-one n)
+module _ (size : ℕ) (touches : ℕ → List ℕ) (n more : ℕ) (after : List ℕ) (given : LaidAll size (gathered touches (n + 1)) more after) where
+  then-many : length (gathered touches (n + 1)) ≡ length (gathered touches (suc n))
+  then-many = ap (λ (k : ℕ). length (gathered touches k)) (add-one n)
 
   pub gather-over : size < more → overfull size touches n ≡ true
   unfolding overfull
-  gather-over h = lt-ltb size (length (gathered touches (suc n))) (omega (arith, then-many))
+  gather-over h = lt-ltb size (length (gathered touches (suc n))) (omega (arith, then-many, given .over h))
 
   pub gather-within : more ≤ size → overfull size touches n ≡ false
   unfolding overfull
-  gather-within h = le-ltb size (length (gathered touches (suc n))) (omega (arith, then-many))
+  gather-within h = le-ltb size (length (gathered touches (suc n))) (omega (arith, then-many, given .count-is h))

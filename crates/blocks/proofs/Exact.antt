@@ -70,7 +70,7 @@ gathered-same one other same (suc nodes) = let rest = gathered-same one other sa
 
 -- ---- a list of blocks never gets shorter
 
-insert-longer : (c : ℕ) (l : List ℕ) → length l ≤ length (insert c l)
+pub insert-longer : (c : ℕ) (l : List ℕ) → length l ≤ length (insert c l)
 insert-longer c [] = omega arith
 insert-longer c (x ∷ l) =
     let rest = insert-longer c l in

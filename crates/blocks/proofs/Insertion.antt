@@ -91,7 +91,7 @@ asc-above x l s j h = s 0 (suc j) (omega arith) (omega arith)
 asc-tail : (x : ℕ) (l : List ℕ) → Ascending (length (x ∷ l)) (x ∷ l) → Ascending (length l) l
 asc-tail x l s i j h k = s (suc i) (suc j) (omega arith) (omega arith)
 
-asc-insert : (b : ℕ) (l : List ℕ) → Ascending (length l) l → Ascending (length (insert b l)) (insert b l)
+pub asc-insert : (b : ℕ) (l : List ℕ) → Ascending (length l) l → Ascending (length (insert b l)) (insert b l)
 asc-insert b [] s = asc-cons b [] (λ j h. absurd (omega arith)) s
 asc-insert b (y ∷ l) s =
     let rest = asc-insert b l (asc-tail y l s) in

@@ -22,6 +22,12 @@ pub record Laid (size : ℕ) (l : List ℕ) (count : ℕ) (array : List ℕ) : T
   pub count-is : count ≡ length l
   pub laid : count ≤ size → array ≡ padded size l
 
+-- The same of blocks that are put in one after another, where the rest is left out once there is one too many.
+pub record LaidAll (size : ℕ) (l : List ℕ) (count : ℕ) (array : List ℕ) : Type 0 where
+  pub count-is : count ≤ size → count ≡ length l
+  pub laid : count ≤ size → array ≡ padded size l
+  pub over : size < count → size < length l
+
 -- A list with a block stored at a place, and what stands from there on moved up by one, when so many places are stored; and what is
 -- carried to the next.
 abbrev pub shifted : List ℕ → ℕ → ℕ → ℕ → List ℕ

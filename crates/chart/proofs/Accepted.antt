@@ -19,9 +19,10 @@ use Rattle.chart.specs.declared.headers.Header.{Header}
 use Rattle.chart.specs.Layout.{chartLength}
 use Rattle.chart.specs.Geometry.{mostNodes, mostBlocks, mostSetBits, mostWays, shapeAllowed}
 use Rattle.chart.specs.Header.{headerIn}
-use Rattle.chart.specs.Record.{Leads, Touch}
+use Rattle.chart.specs.Record.{recordKeeps, Leads, Touch}
 use Rattle.chart.specs.Chart.{Chart, accepted, refused, recordsIn, chartIn, chartCases, readChart, blockCount, brokenAt, firstBroken, overfullAt, firstOverfull, blocksAt, touches}
-use Rattle.chart.proofs.Allowed.{between-both, line-bounds, sets-bound, ways-bounds, keeps-leads}
+use Rattle.chart.specs.Inner.{AllEnd}
+use Rattle.chart.proofs.Allowed.{between-both, line-bounds, sets-bound, ways-bounds, keeps-leads, keeps-sized, keeps-ends}
 
 module _ (bytes : List ℕ) (chart : Chart) (read : readChart bytes ≡ accepted chart) where
   accepted-none : NoneApplies (chartCases bytes)
@@ -86,13 +87,20 @@ module _ (bytes : List ℕ) (chart : Chart) (read : readChart bytes ≡ accepted
       rw accepted-chart
       (ascending-apart (blockCount (chartIn bytes)) (chartIn bytes .blocks) (asc-gathered brought (headerIn bytes .nodes)))
 
-  pub accepted-arrows : (n : ℕ) → n < chart .header .nodes → Leads (chart .header .nodes) (chart .node n .targets)
+  -- Each record keeps its rules.
+  accepted-keeps : (n : ℕ) → n < headerIn bytes .nodes → recordKeeps (headerIn bytes .nodes) (recordsIn bytes n) ≡ true
   unfolding firstBroken
+  accepted-keeps n h = not-false _ (none-passes (headerIn bytes .nodes) (brokenAt (recordsIn bytes) (headerIn bytes .nodes)) (accepted-none .1 .1 .1 .1 .1 .1 .1 .1 .0) n h)
+
+  pub accepted-arrows : (n : ℕ) → n < chart .header .nodes → Leads (chart .header .nodes) (chart .node n .targets)
   accepted-arrows n h =
-      let inside : n < headerIn bytes .nodes = rw accepted-chart at h in
-      rw accepted-chart
-      (keeps-leads (headerIn bytes .nodes) (recordsIn bytes n)
-      (not-false _ (none-passes (headerIn bytes .nodes) (brokenAt (recordsIn bytes) (headerIn bytes .nodes)) (accepted-none .1 .1 .1 .1 .1 .1 .1 .1 .0) n inside)))
+      rw accepted-chart (keeps-leads (headerIn bytes .nodes) (recordsIn bytes n) (accepted-keeps n (rw accepted-chart at h)))
+
+  pub accepted-sized : (n : ℕ) → n < chart .header .nodes → recordsIn bytes n .size ≤ 2
+  accepted-sized n h = keeps-sized (headerIn bytes .nodes) (recordsIn bytes n) (accepted-keeps n (rw accepted-chart at h))
+
+  pub accepted-ends : AllEnd (recordsIn bytes) (chart .header .nodes)
+  accepted-ends n h = keeps-ends (headerIn bytes .nodes) (recordsIn bytes n) (accepted-keeps n (rw accepted-chart at h))
 
   -- The block of each touch of a node stands at its place among the chart's blocks.
   pub accepted-column : (n : ℕ) → n < chart .header .nodes → (t : Touch) → Among t (touches chart n) → (placeIn (chart .blocks) (t .block) < blockCount chart) × (getD (chart .blocks) (placeIn (chart .blocks) (t .block)) 0 ≡ t .block)

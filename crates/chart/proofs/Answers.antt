@@ -13,11 +13,11 @@ use Rattle.chart.specs.declared.readings.Reading.{Reading}
 use Rattle.chart.specs.declared.readings.Verdict.the-variants as verdict
 use Rattle.refusals.specs.declared.Refusal.{Refusal}
 use Rattle.chart.specs.Geometry.{mostNodes, mostBlocks, mostSetBits}
-use Rattle.chart.specs.Chart.{Chart, Read, accepted, refused, readChart, chartIn, blockCount}
+use Rattle.chart.specs.Chart.{Chart, Read, accepted, refused, readChart, recordsIn, chartIn, blockCount}
 use Rattle.chart.specs.Reading.{readingOf, reading}
-use Rattle.chart.specs.Inner.{AcceptedAs}
+use Rattle.chart.specs.Inner.{AllEnd, AcceptedAs}
 use Rattle.chart.specs.Layout.{chartLength}
-use Rattle.chart.proofs.Accepted.{accepted-chart, accepted-nodes, accepted-sets, accepted-entry, accepted-length, accepted-few, accepted-ascending}
+use Rattle.chart.proofs.Accepted.{accepted-chart, accepted-nodes, accepted-sets, accepted-entry, accepted-length, accepted-few, accepted-ascending, accepted-ends}
 
 module _ (bytes : List ℕ) (answer : Reading) (answered : answer ≡ reading bytes) where
   verdict-of : (r : Read) → readChart bytes ≡ r → answer ≡ readingOf r
@@ -83,6 +83,9 @@ module _ {bytes : List ℕ} {header : Header} {count : ℕ} {array : List ℕ} (
   found-array =
       let long : length array ≡ mostBlocks = ap length (found .array-is) ∙ length-padded mostBlocks (chart .blocks) (accepted-few bytes chart (found .read)) in
       omega (arith, found-blocks)
+
+  pub found-ends : AllEnd (recordsIn bytes) (header .nodes)
+  found-ends = subst (λ (h : Header). AllEnd (recordsIn bytes) (h .nodes)) (sym (found .header-is)) (accepted-ends bytes chart (found .read))
 
   pub found-ages : header .nodes * count ≤ mostNodes * mostBlocks
   found-ages = mul-le-mul found-nodes found-blocks

@@ -56,8 +56,8 @@ module _ (a b c d e f g h : ℕ) (a′ : a < 256) (b′ : b < 256) (c′ : c < 2
       let outs : fields .outs ≡ e / 16 % 4 = omega arith in
       let first : fields .first ≡ e % 16 * 256 + f = omega arith in
       let second : fields .second ≡ g * 16 + h / 16 = omega arith in
-      let spare : fields .spare ≡ h % 16 = omega arith in
-      λ i. record { kind = kind i; address = address i; outs = outs i; first = first i; second = second i; spare = spare i }
+      let size : fields .size ≡ h % 16 = omega arith in
+      λ i. record { kind = kind i; address = address i; outs = outs i; first = first i; second = second i; size = size i }
 
 module _ (bytes : List ℕ) (small : AreBytes bytes) where
   pub header-bytes : fieldsIn bytes ≡ headerBytes bytes

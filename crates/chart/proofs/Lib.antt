@@ -1,5 +1,6 @@
 pub mod Numbers
 pub mod Allowed
+pub mod Sizes
 pub mod Reader
 pub mod Accepted
 pub mod Answers

@@ -9,9 +9,9 @@ use lib.Dec.{ltb}
 use lib.ListN.{length, take}
 use Rattle.lists.specs.Choice.{Case, NoneApplies, firstFrom, first}
 use Rattle.lists.specs.Lists.{padded}
-use Rattle.lists.proofs.Choice.{none-applies, first-otherwise, first-after, first-applies, applies-first, first-front, first-found, first-ends}
+use Rattle.lists.proofs.Choice.{none-passes, none-applies, first-otherwise, first-after, first-applies, applies-first, first-front, first-found, first-ends}
 use Rattle.blocks.specs.Blocks.{insertAll, gathered}
-use Rattle.blocks.specs.Listing.{Laid}
+use Rattle.blocks.specs.Listing.{LaidAll}
 use Rattle.blocks.proofs.Arrays.{gather-more}
 use Rattle.chart.specs.declared.gathering.Gathered.{Gathered}
 use Rattle.chart.specs.declared.gathering.Gathered.the-variants.{Blocks, TooMany}
@@ -23,14 +23,14 @@ use Rattle.chart.specs.declared.records.RecordFields.{RecordFields}
 use Rattle.refusals.specs.declared.Refusal.{Refusal}
 use Rattle.refusals.specs.declared.Refusal.the-variants.{BrokenRecord, TooManyBlocks}
 use Rattle.chart.specs.declared.shape.Geometry.{Geometry}
-use Rattle.chart.specs.Chart.{accepted, refused, blocksAt, chartOf, firstBroken, overfullAt, firstOverfull, recordCases, recordsRead, recordsIn, chartIn, chartCases, readChart}
+use Rattle.chart.specs.Chart.{accepted, refused, blocksAt, chartOf, brokenAt, firstBroken, overfullAt, firstOverfull, recordCases, recordsRead, recordsIn, chartIn, chartCases, readChart}
 use Rattle.chart.specs.Geometry.{mostNodes, mostBlocks}
 use Rattle.chart.specs.Header.{headerIn, bytesCases, headerRead}
 use Rattle.chart.specs.Layout.{chartLength}
 use Rattle.chart.specs.Record.{recordOf, touchesOf, blocksOf}
 use Rattle.chart.specs.Reading.{readingOf}
-use Rattle.chart.specs.Inner.{Gathers}
-use Rattle.chart.proofs.Allowed.{between-both}
+use Rattle.chart.specs.Inner.{AllEnd, Gathers}
+use Rattle.chart.proofs.Allowed.{between-both, keeps-ends}
 
 -- ---- the blocks of all nodes, or the first node that brings one too many
 
@@ -38,10 +38,10 @@ module _ (fieldsAt : ℕ → RecordFields) (geometry : Geometry) where
   -- A turn: the blocks of node n's record put into those of the nodes before it.
   pub gather-turn : (n count : ℕ) (array : List ℕ) → count ≤ mostBlocks → count ≡ length (gathered (blocksAt geometry fieldsAt) n) → array ≡ padded mostBlocks (gathered (blocksAt geometry fieldsAt) n)
       → (what : Record) → what ≡ recordOf (fieldsAt n)
-      → (more : ℕ) (after : List ℕ) → Laid mostBlocks (insertAll (blocksOf (touchesOf geometry what)) (take count array)) more after → Laid mostBlocks (gathered (blocksAt geometry fieldsAt) (n + 1)) more after
+      → (more : ℕ) (after : List ℕ) → LaidAll mostBlocks (insertAll (blocksOf (touchesOf geometry what)) (take count array)) more after → LaidAll mostBlocks (gathered (blocksAt geometry fieldsAt) (n + 1)) more after
   gather-turn n count array short counted laid what is more after h =
       gather-more mostBlocks (blocksAt geometry fieldsAt) n count array short counted laid more after
-      (subst (λ (r : Record). Laid mostBlocks (insertAll (blocksOf (touchesOf geometry r)) (take count array)) more after) is h)
+      (subst (λ (r : Record). LaidAll mostBlocks (insertAll (blocksOf (touchesOf geometry r)) (take count array)) more after) is h)
 
   module _ (nodes n : ℕ) (array : List ℕ) (come : first nodes (overfullAt geometry fieldsAt) ≡ firstFrom n (nodes - n) (overfullAt geometry fieldsAt)) where
     pub gathers-over : n < nodes → overfullAt geometry fieldsAt n ≡ true → Gathers fieldsAt geometry nodes (TooMany n) array
@@ -62,6 +62,13 @@ module _ (fieldsAt : ℕ → RecordFields) (geometry : Geometry) where
           answered = rw (e, le-ltb n nodes h, ← q) (ap Blocks counted);
           laid = λ _. rw (← q) laid;
         }
+
+-- ---- records that keep their rules
+
+pub records-end : (fieldsAt : ℕ → RecordFields) (nodes broken : ℕ) → broken ≡ firstBroken fieldsAt nodes → nodes ≤ broken → AllEnd fieldsAt nodes
+unfolding firstBroken
+records-end fieldsAt nodes broken found whole n h =
+    keeps-ends nodes (fieldsAt n) (not-false _ (none-passes nodes (brokenAt fieldsAt nodes) (le-ltb (firstBroken fieldsAt nodes) nodes (omega (arith, found))) n h))
 
 -- ---- the records under a header
 

@@ -23,12 +23,14 @@ use Rattle.chart.specs.declared.records.RecordFields.{RecordFields}
 use Rattle.chart.specs.Geometry.{mostNodes, mostBlocks, mostSetBits, mostWays, blockOf, between, shapeAllowed}
 use Rattle.chart.specs.Layout.{chartLength}
 use Rattle.chart.specs.Header.{geometryOf, fieldsIn, headerIn}
-use Rattle.chart.specs.Record.{arrowKeeps, recordKeeps, recordOf, touchesOf, blocksOf}
+use Rattle.chart.specs.Record.{lastByte, recordKeeps, recordOf, touchesOf, blocksOf}
 use Rattle.chart.specs.Chart.{Chart, accepted, refused, recordsIn, brokenAt, firstBroken, overfullAt, firstOverfull, blocksAt, chartIn, chartCases, readChart}
 use Rattle.chart.specs.Bytes.{AreBytes, headerBytes, recordBytes}
-use Rattle.chart.specs.Refusing.{ShapeKeeps, RecordKeeps, nodesSaid, FirstBroken, blocksSaid, blocksBefore, FirstOver, Applies}
+use Rattle.chart.specs.Refusing.{ShapeKeeps, RecordKeeps, nodesSaid, FirstBroken, lastBlockSaid, recordBlocks, blocksSaid, blocksBefore, FirstOver, Applies}
 use Rattle.lists.proofs.Telling.{tells-ltb, tells-leb, tells-eqb, tells-not, tells-and, tells-same, tells-if, holds-true, fails-false, first-only, first-given, none-given, none-only}
 use Rattle.blocks.proofs.Exact.{gathered-same, gathered-longer}
+use Rattle.chart.proofs.Allowed.{tells-record}
+use Rattle.chart.proofs.Sizes.{last-block}
 use Rattle.chart.proofs.Bytes.{header-bytes, record-bytes}
 
 false-not : (t : Bool) → t ≡ false → not t ≡ true
@@ -37,7 +39,7 @@ false-not t e = rw e
 true-not : (t : Bool) → t ≡ true → not t ≡ false
 true-not t e = rw e
 
--- ---- the shape, and a record
+-- ---- the shape, and the blocks of a record
 
 tells-between : (least most n : ℕ) → Tells (between least most n) ((least ≤ n) × (n ≤ most))
 tells-between least most n = tells-and (leb least n) (leb n most) (least ≤ n) (n ≤ most) (tells-leb least n) (tells-leb n most)
@@ -51,70 +53,24 @@ tells-shape fields =
     (tells-and _ _ _ _ (tells-between 2 8 (fields .line))
     (tells-and _ _ _ _ (tells-between 0 mostSetBits (fields .sets)) (tells-between 1 mostWays (fields .ways))))
 
--- An arrow's rule: below N where it is used, else 0.
-tells-arrow : (nodes least outs target : ℕ) → Tells (arrowKeeps nodes (ltb least outs) target) ((least < outs → target < nodes) × (outs ≤ least → target ≡ 0))
-tells-arrow nodes least outs target = go (ltb least outs) refl
-  where
-    go : (t : Bool) → ltb least outs ≡ t → Tells (arrowKeeps nodes t target) ((least < outs → target < nodes) × (outs ≤ least → target ≡ 0))
-    go true e =
-        let used = ltb-true least outs e in
-        tells-same (ltb target nodes) (target < nodes) _ (λ h. ((λ _. h), λ k. absurd (omega arith))) (λ h. h .0 used) (tells-ltb target nodes)
-    go false e =
-        let unused = ltb-false least outs e in
-        tells-same (eqb target 0) (target ≡ 0) _ (λ h. ((λ k. absurd (omega arith)), λ _. h)) (λ h. h .1 unused) (tells-eqb target 0)
-
-tells-record : (nodes : ℕ) (fields : RecordFields) → Tells (recordKeeps nodes fields) (RecordKeeps nodes fields)
-unfolding recordKeeps
-tells-record nodes fields =
-    tells-same _ _ (RecordKeeps nodes fields)
-    (λ h. record {
-      kinds = h .0;
-      addresses = h .1 .0;
-      steps = h .1 .1 .0;
-      arrows = h .1 .1 .1 .0;
-      first-used = λ k. h .1 .1 .1 .1 .0 .0 (omega arith);
-      first-unused = λ k. h .1 .1 .1 .1 .0 .1 (omega arith);
-      second-used = λ k. h .1 .1 .1 .1 .1 .0 .0 (omega arith);
-      second-unused = λ k. h .1 .1 .1 .1 .1 .0 .1 (omega arith);
-      no-twins = λ k e. h .1 .1 .1 .1 .1 .1 .0 (omega arith, e);
-      spares = h .1 .1 .1 .1 .1 .1 .1;
-    })
-    (λ k. (
-      k .kinds,
-      (
-        k .addresses,
-        (
-          k .steps,
-          (
-            k .arrows,
-            (
-              ((λ h. k .first-used (omega arith)), λ h. k .first-unused (omega arith)),
-              (
-                ((λ h. k .second-used (omega arith)), λ h. k .second-unused (omega arith)),
-                ((λ h. k .no-twins (omega (arith, h .0)) (h .1)), k .spares),
-              ),
-            ),
-          ),
-        ),
-      ),
-    ))
-    (tells-and _ _ _ _ (tells-leb (fields .kind) 2)
-    (tells-and _ _ _ _ (tells-ltb (fields .address) (2 ^ 32))
-    (tells-and _ _ _ _ (tells-if _ _ _ _ (tells-eqb (fields .kind) 0) (tells-eqb (fields .address) 0))
-    (tells-and _ _ _ _ (tells-leb (fields .outs) 2)
-    (tells-and _ _ _ _ (tells-arrow nodes 0 (fields .outs) (fields .first))
-    (tells-and _ _ _ _ (tells-arrow nodes 1 (fields .outs) (fields .second))
-    (tells-and _ _ _ _ (tells-not _ _ (tells-and _ _ _ _ (tells-ltb 1 (fields .outs)) (tells-eqb (fields .first) (fields .second))))
-    (tells-eqb (fields .spare) 0))))))))
-
--- The blocks of a record: none of a bare step, else the one that holds its address.
-record-blocks : (geometry : Geometry) (fields : RecordFields) → blocksOf (touchesOf geometry (recordOf fields)) ≡ cond (eqb (fields .kind) 0) [] ((fields .address / 2 ^ geometry .line) ∷ [])
+-- The blocks of a record: none of a bare step, else that of its first byte, and that of its last byte if it is another.
+record-blocks : (geometry : Geometry) (fields : RecordFields) → blocksOf (touchesOf geometry (recordOf fields)) ≡ recordBlocks (geometry .line) fields
 unfolding recordOf touchesOf blockOf
 record-blocks geometry fields = go (eqb (fields .kind) 0)
   where
-    go : (t : Bool) → blocksOf (touchesOf geometry (cond t Step (Reference (record { write = eqb (fields .kind) 2; address = fields .address })))) ≡ cond t [] ((fields .address / 2 ^ geometry .line) ∷ [])
+    lower : ℕ
+    lower = fields .address / 2 ^ geometry .line
+
+    two : (upper : ℕ) (t : Bool) → blocksOf (record { block = lower; write = eqb (fields .kind) 2 } ∷ cond t [] (record { block = upper; write = eqb (fields .kind) 2 } ∷ [])) ≡ lower ∷ cond t [] (upper ∷ [])
+    two upper true = refl
+    two upper false = refl
+
+    go : (t : Bool) → blocksOf (touchesOf geometry (cond t Step (Reference (record { write = eqb (fields .kind) 2; address = fields .address; last = lastByte fields }))))
+        ≡ cond t [] (lower ∷ cond (eqb lower (lastBlockSaid (geometry .line) fields)) [] (lastBlockSaid (geometry .line) fields ∷ []))
     go true = refl
-    go false = refl
+    go false =
+        two (lastByte fields / 2 ^ geometry .line) (eqb lower (lastByte fields / 2 ^ geometry .line))
+        ∙ ap (λ (upper : ℕ). lower ∷ cond (eqb lower upper) [] (upper ∷ [])) (last-block fields (geometry .line))
 
 module _ (bytes : List ℕ) (small : AreBytes bytes) where
   nodes-said : fieldsIn bytes .nodes ≡ nodesSaid bytes
@@ -157,7 +113,7 @@ module _ (bytes : List ℕ) (small : AreBytes bytes) where
   blocks-said n =
       subst (λ (f : RecordFields). blocksOf (touchesOf (headerIn bytes .geometry) (recordOf f)) ≡ blocksSaid bytes n) (sym (record-bytes bytes small n))
       (record-blocks (headerIn bytes .geometry) (recordBytes bytes n)
-      ∙ ap (λ (f : HeaderFields). cond (eqb (recordBytes bytes n .kind) 0) [] ((recordBytes bytes n .address / 2 ^ f .line) ∷ [])) (header-bytes bytes small))
+      ∙ ap (λ (f : HeaderFields). recordBlocks (f .line) (recordBytes bytes n)) (header-bytes bytes small))
 
   abbrev over : ℕ → Bool
   over = overfullAt (headerIn bytes .geometry) (recordsIn bytes)

@@ -1,6 +1,6 @@
 -- An accepted chart is the one that its bytes say.
-use Prim.Native.Nat.{ℕ, _/_, _%_, _^_}
-use mathlib.Core.Bool.{true, false, cond}
+use Prim.Native.Nat.{ℕ, _%_, _^_, _≤_}
+use mathlib.Core.Bool.{Bool, true, false, cond}
 use mathlib.Core.List.{List, [], _∷_}
 use mathlib.Core.Path.{_≡_, refl, sym, ap, subst, _∙_}
 use native.Mathlib.Omega.{arith}
@@ -12,11 +12,13 @@ use Rattle.chart.specs.declared.records.RecordFields.{RecordFields}
 use Rattle.chart.specs.declared.shape.Geometry.{Geometry}
 use Rattle.chart.specs.Geometry.{blockOf, setOf}
 use Rattle.chart.specs.Header.{headerOf, headerIn}
-use Rattle.chart.specs.Record.{recordOf, targetsOf, arrowsOf, Touch, touchesOf}
+use Rattle.chart.specs.Record.{lastByte, recordOf, targetsOf, arrowsOf, Touch, touchesOf}
+use Rattle.chart.specs.declared.records.Record.the-variants.{Step, Reference}
 use Rattle.chart.specs.Chart.{Chart, accepted, recordsIn, blocksAt, chartIn, readChart}
-use Rattle.chart.proofs.Accepted.{accepted-chart}
+use Rattle.chart.proofs.Accepted.{accepted-chart, accepted-lines, accepted-sized}
+use Rattle.chart.proofs.Sizes.{touches-say}
 use Rattle.chart.specs.Bytes.{AreBytes}
-use Rattle.chart.specs.Saying.{HeaderSays, NodeSays, Says}
+use Rattle.chart.specs.Saying.{HeaderSays, TouchesSay, NodeSays, Says}
 use Rattle.blocks.proofs.Exact.{gathered-exactly}
 use Rattle.chart.proofs.Bytes.{header-bytes, record-bytes}
 
@@ -32,28 +34,25 @@ header-says fields =
       entry = refl;
     }
 
-module _ (geometry : Geometry) (fields : RecordFields) where
-  -- What a record with these fields and another kind touches, and where one with another number of arrows leads.
-  abbrev touchesOfKind : ℕ → List Touch
-  touchesOfKind kind = touchesOf geometry (recordOf (record { kind = kind; address = fields .address; outs = fields .outs; first = fields .first; second = fields .second; spare = fields .spare }))
+module _ (geometry : Geometry) (fields : RecordFields) (least : 2 ≤ geometry .line) (sized : fields .size ≤ 2) where
+  -- What the record touches if its kind is that of a reference or not, and writes or not; and where one with another number of arrows leads.
+  abbrev touchesIf : Bool → Bool → List Touch
+  touchesIf step write = touchesOf geometry (cond step Step (Reference (record { write = write; address = fields .address; last = lastByte fields })))
 
   abbrev leads : ℕ → List ℕ
   leads outs = arrowsOf (record { outs = outs; first = fields .first; second = fields .second })
 
-  abbrev block : ℕ
-  block = fields .address / 2 ^ geometry .line
+  touches-are : touchesOf geometry (recordOf fields) ≡ touchesIf (eqb (fields .kind) 0) (eqb (fields .kind) 2)
+  unfolding recordOf
+  touches-are = refl
 
-  step-touches : touchesOfKind 0 ≡ []
-  unfolding recordOf touchesOf
-  step-touches = refl
+  step-touches : (write : Bool) → touchesIf true write ≡ []
+  unfolding touchesOf
+  step-touches write = refl
 
-  read-touches : touchesOfKind 1 ≡ record { block = block; write = false } ∷ []
-  unfolding recordOf touchesOf blockOf
-  read-touches = refl
-
-  write-touches : touchesOfKind 2 ≡ record { block = block; write = true } ∷ []
-  unfolding recordOf touchesOf blockOf
-  write-touches = refl
+  refers : (write : Bool) → TouchesSay fields (geometry .line) write (touchesIf false write)
+  unfolding touchesOf blockOf
+  refers write = touches-say fields (geometry .line) write least sized
 
   no-arrow-leads : leads 0 ≡ []
   unfolding arrowsOf
@@ -70,15 +69,15 @@ module _ (geometry : Geometry) (fields : RecordFields) where
   node-says : NodeSays fields (geometry .line) (touchesOf geometry (recordOf fields)) (arrowsOf (targetsOf fields))
   node-says =
       record {
-        step = λ e. ap touchesOfKind e ∙ step-touches;
-        read = λ e. ap touchesOfKind e ∙ read-touches;
-        write = λ e. ap touchesOfKind e ∙ write-touches;
+        step = λ e. touches-are ∙ ap (λ (kind : ℕ). touchesIf (eqb kind 0) (eqb kind 2)) e ∙ step-touches false;
+        read = λ e. subst (TouchesSay fields (geometry .line) false) (sym (touches-are ∙ ap (λ (kind : ℕ). touchesIf (eqb kind 0) (eqb kind 2)) e)) (refers false);
+        write = λ e. subst (TouchesSay fields (geometry .line) true) (sym (touches-are ∙ ap (λ (kind : ℕ). touchesIf (eqb kind 0) (eqb kind 2)) e)) (refers true);
         no-arrow = λ e. ap leads e ∙ no-arrow-leads;
         one-arrow = λ e. ap leads e ∙ one-arrow-leads;
         two-arrows = λ e. ap leads e ∙ two-arrows-lead;
       }
 
-module _ (bytes : List ℕ) (small : AreBytes bytes) where
+module _ (bytes : List ℕ) (small : AreBytes bytes) (read : readChart bytes ≡ accepted (chartIn bytes)) where
   set-said : (block : ℕ) → setOf (headerIn bytes .geometry) block ≡ block % 2 ^ headerIn bytes .geometry .sets
   unfolding setOf
   set-said block = refl
@@ -87,10 +86,13 @@ module _ (bytes : List ℕ) (small : AreBytes bytes) where
   chart-says =
       record {
         header = subst (λ (f : HeaderFields). HeaderSays f (headerIn bytes)) (header-bytes bytes small) (header-says _);
-        nodes = λ n h. subst (λ (f : RecordFields). NodeSays f (headerIn bytes .geometry .line) (touchesOf (headerIn bytes .geometry) (recordOf (recordsIn bytes n))) (arrowsOf (targetsOf (recordsIn bytes n)))) (record-bytes bytes small n) (node-says (headerIn bytes .geometry) (recordsIn bytes n));
+        nodes = λ n h. subst (λ (f : RecordFields). NodeSays f (headerIn bytes .geometry .line) (touchesOf (headerIn bytes .geometry) (recordOf (recordsIn bytes n))) (arrowsOf (targetsOf (recordsIn bytes n)))) (record-bytes bytes small n)
+            (node-says (headerIn bytes .geometry) (recordsIn bytes n) (accepted-lines bytes (chartIn bytes) read .0) (accepted-sized bytes (chartIn bytes) read n h));
         blocks = gathered-exactly (blocksAt (headerIn bytes .geometry) (recordsIn bytes)) (headerIn bytes .nodes);
         sets = λ block. set-said block ∙ ap (λ (f : HeaderFields). block % 2 ^ f .sets) (header-bytes bytes small);
       }
 
-  pub accepted-says : (chart : Chart) → readChart bytes ≡ accepted chart → Says bytes chart
-  accepted-says chart e = subst (Says bytes) (sym (accepted-chart bytes chart e)) chart-says
+pub accepted-says : (bytes : List ℕ) → AreBytes bytes → (chart : Chart) → readChart bytes ≡ accepted chart → Says bytes chart
+accepted-says bytes small chart e =
+    let is : chart ≡ chartIn bytes = accepted-chart bytes chart e in
+    subst (Says bytes) (sym is) (chart-says bytes small (e ∙ ap accepted is))

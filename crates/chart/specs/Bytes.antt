@@ -48,7 +48,7 @@ recordOfBytes a b c d e f g h =
       outs = e / 16 % 4;
       first = e % 16 * 256 + f;
       second = g * 16 + h / 16;
-      spare = h % 16;
+      size = h % 16;
     }
 
 -- Rule 1.1: byte k of node n's record, behind the header and the records of the nodes before.

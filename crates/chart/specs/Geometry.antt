@@ -19,6 +19,10 @@ mostBlocks = 64
 abbrev pub mostWays : ℕ
 mostWays = 8
 
+-- Rule 1.4: the most touches of a node.
+abbrev pub mostTouches : ℕ
+mostTouches = 2
+
 -- Rules 1.3 and 1.4: how many bytes the longest chart has.
 abbrev pub longestChart : ℕ
 longestChart = chartLength mostNodes

@@ -9,3 +9,5 @@ pub mod Bytes
 pub mod Refusing
 pub mod Saying
 pub mod Sounded
+pub mod Sizes
+pub mod Claims

@@ -1,7 +1,7 @@
--- A node's record: its fields, what is allowed in them, what it touches and where its arrows lead. Rules 2.1 to 2.4, 2.6 to 2.9 and 3.3.
--- Choices: one test for all that a record has to keep, of any fields, whether or not a word can hold them; touches are a list, of none or one.
--- A record that is refused reads as something too: a kind above 2 as a read, more than two arrows as two.
-use Prim.Native.Nat.{ℕ, _^_, _<_}
+-- A node's record: its fields, what is allowed in them, what it touches and where its arrows lead. Rules 2.1 to 2.4, 2.7 to 2.12 and 3.3.
+-- Choices: one test for all that a record has to keep, of any fields, whether or not a word can hold them; touches are a list, of none, one or two.
+-- A record that is refused reads as something too: a kind above 2 as a read, more than two arrows as two, a size code above 2 as four bytes.
+use Prim.Native.Nat.{ℕ, _+_, _-_, _^_, _<_}
 use mathlib.Core.Bool.{Bool, not, cond, _&&_, _||_}
 use mathlib.Core.List.{List, [], _∷_, map}
 use lib.Dec.{ltb, leb, eqb}
@@ -23,7 +23,7 @@ recordFields word =
       outs = field recordWidths 2 word;
       first = field recordWidths 3 word;
       second = field recordWidths 4 word;
-      spare = field recordWidths 5 word;
+      size = field recordWidths 5 word;
     }
 
 -- Rule 2.4, of one arrow.
@@ -34,23 +34,32 @@ arrowKeeps nodes used target = cond used (ltb target nodes) (eqb target 0)
 abbrev pub twins : RecordFields → Bool
 twins fields = ltb 1 (fields .outs) && eqb (fields .first) (fields .second)
 
--- What a record keeps in a chart of so many nodes: the kind (rules 2.1 and 2.2), an address of 32 bits, as every one in a word is, a bare step's
--- (rule 2.3), the number of arrows (rule 2.1), each arrow (rule 2.4), both together (rule 2.9), the spare bits (rule 2.6).
+-- Rule 2.10: how many bytes a size code says.
+abbrev pub bytesOf : ℕ → ℕ
+bytesOf code = cond (eqb code 0) 1 (cond (eqb code 1) 2 4)
+
+-- Rules 2.10 and 2.12: the address of the last of them.
+abbrev pub lastByte : RecordFields → ℕ
+lastByte fields = fields .address + bytesOf (fields .size) - 1
+
+-- What a record keeps in a chart of so many nodes: the kind (rules 2.1 and 2.2), a last byte within 32 bits (rule 2.12), and so its address, a bare
+-- step's address and size code (rules 2.3 and 2.11), the number of arrows (rule 2.1), each arrow (rule 2.4), both together (rule 2.9), the size
+-- code (rule 2.1).
 unfoldable pub recordKeeps : ℕ → RecordFields → Bool
 recordKeeps nodes fields =
     leb (fields .kind) 2
-    && (ltb (fields .address) (2 ^ 32)
-    && ((not (eqb (fields .kind) 0) || eqb (fields .address) 0)
+    && (ltb (lastByte fields) (2 ^ 32)
+    && ((not (eqb (fields .kind) 0) || (eqb (fields .address) 0 && eqb (fields .size) 0))
     && (leb (fields .outs) 2
     && (arrowKeeps nodes (ltb 0 (fields .outs)) (fields .first)
     && (arrowKeeps nodes (ltb 1 (fields .outs)) (fields .second)
     && (not (twins fields)
-    && eqb (fields .spare) 0))))))
+    && leb (fields .size) 2))))))
 
--- Rule 2.2: what a record is by its kind.
+-- Rules 2.2 and 2.10: what a record is by its kind, and from which byte to which a reference goes.
 unfoldable pub recordOf : RecordFields → Record
 recordOf fields =
-    cond (eqb (fields .kind) 0) Step (Reference (record { write = eqb (fields .kind) 2; address = fields .address }))
+    cond (eqb (fields .kind) 0) Step (Reference (record { write = eqb (fields .kind) 2; address = fields .address; last = lastByte fields }))
 
 -- Rule 2.1: how many arrows lead out, and the two fields for targets.
 abbrev pub targetsOf : RecordFields → Targets
@@ -70,17 +79,28 @@ pub record Leads (nodes : ℕ) (targets : Targets) : Type 0 where
   pub first-in : 0 < targets .outs → targets .first < nodes
   pub second-in : 1 < targets .outs → targets .second < nodes
 
+-- Rule 2.12: a reference ends within 32 bits. Every one of an accepted chart does.
+abbrev pub Ends : Record → Type 0
+Ends Step = Unit {0}
+Ends (Reference reference) = reference .last < 2 ^ 32
+
 -- Rule 3.3: one touch of the cache, of which block; and whether by a write.
 pub record Touch : Type 0 where
   pub block : ℕ
   pub write : Bool
 
--- Rule 3.3: what a record touches. A bare step has no touch, so nothing is done for it (rule 2.7); a write has a read's (rule 2.8), and the
--- flag only says that it is one.
+-- Rule 3.3: the touches of a reference by its two blocks, the lower first, and then the upper if that is another.
+abbrev pub bothTouched : Bool → ℕ → ℕ → List Touch
+bothTouched write lower upper =
+    record { block = lower; write = write }
+    ∷ cond (eqb lower upper) [] (record { block = upper; write = write } ∷ [])
+
+-- Rule 3.3: what a record touches; the lower block is the one in which the first byte lies, the upper one that in which the last byte lies. A bare
+-- step has no touch, so nothing is done for it (rule 2.7); a write has a read's (rule 2.8), and the flag only says that it is one.
 unfoldable pub touchesOf : Geometry → Record → List Touch
 touchesOf geometry Step = []
 touchesOf geometry (Reference reference) =
-    record { block = blockOf geometry (reference .address); write = reference .write } ∷ []
+    bothTouched (reference .write) (blockOf geometry (reference .address)) (blockOf geometry (reference .last))
 
 -- Rule 3.3: the blocks of touches, in turn.
 abbrev pub blocksOf : List Touch → List ℕ

@@ -1,5 +1,5 @@
 -- When each of refusals 1 to 10 applies, as statements about the bytes. Rules 11.1 to 11.10 a second time, with rules 1.2, 1.3, 2.1 to 2.4,
--- 2.6, 2.9, 3.1 and 3.3: the tests of `Header.antt`, `Record.antt` and `Chart.antt` run; these are read. Demand 1 promises that the two agree.
+-- 2.9 to 2.12, 3.1, 3.3 and 3.4: the tests of `Header.antt`, `Record.antt` and `Chart.antt` run; these are read. Demand 1 promises that the two agree.
 -- The limits of N, S, A and the blocks are the geometry's on both sides: their numbers are sounded.
 -- Choices: a byte past the end counts as 0; any kind but 0 touches; that the two agree is said of bytes (`AreBytes`).
 use Prim.Native.Nat.{ℕ, suc, _+_, _*_, _/_, _^_, _≤_, _<_}
@@ -24,14 +24,16 @@ pub record ShapeKeeps (fields : HeaderFields) : Type 0 where
   pub ways-from : 1 ≤ fields .ways
   pub ways-to : fields .ways ≤ mostWays
 
--- Rules 2.1, 2.3, 2.4, 2.6 and 2.9: what a record in a chart of so many nodes has to keep.
+-- Rules 2.1, 2.3, 2.4, 2.9, 2.11 and 2.12: what a record in a chart of so many nodes has to keep.
 pub record RecordKeeps (nodes : ℕ) (fields : RecordFields) : Type 0 where
   -- rules 2.1 and 2.2
   pub kinds : fields .kind ≤ 2
-  -- rule 2.1: an address of bytes is so in any case
-  pub addresses : fields .address < 2 ^ 32
-  -- rule 2.3
-  pub steps : fields .kind ≡ 0 → fields .address ≡ 0
+  -- rules 2.10 and 2.12, by the size code: the last of one, two and four bytes has an address of 32 bits
+  pub one-byte : fields .size ≡ 0 → fields .address < 2 ^ 32
+  pub two-bytes : fields .size ≡ 1 → fields .address + 1 < 2 ^ 32
+  pub four-bytes : fields .size ≡ 2 → fields .address + 3 < 2 ^ 32
+  -- rules 2.3 and 2.11
+  pub steps : fields .kind ≡ 0 → (fields .address ≡ 0) × (fields .size ≡ 0)
   -- rule 2.1
   pub arrows : fields .outs ≤ 2
   -- rule 2.4
@@ -41,8 +43,8 @@ pub record RecordKeeps (nodes : ℕ) (fields : RecordFields) : Type 0 where
   pub second-unused : fields .outs ≤ 1 → fields .second ≡ 0
   -- rule 2.9
   pub no-twins : 2 ≤ fields .outs → fields .first ≡ fields .second → ⊥
-  -- rule 2.6
-  pub spares : fields .spare ≡ 0
+  -- rule 2.1
+  pub sizes : fields .size ≤ 2
 
 -- N, as the bytes say it.
 abbrev pub nodesSaid : List ℕ → ℕ
@@ -54,10 +56,23 @@ pub record FirstBroken (bytes : List ℕ) (n : ℕ) : Type 0 where
   pub breaks : RecordKeeps (nodesSaid bytes) (recordBytes bytes n) → ⊥
   pub earlier : (i : ℕ) → i < n → RecordKeeps (nodesSaid bytes) (recordBytes bytes i)
 
--- Rules 3.1 and 3.3: the blocks that node n touches, as the bytes say it. None if it is a bare step, else the one that the address lies in.
+-- Rules 2.10 and 3.1: the block of a reference's last byte, which is the first one, the second or the fourth. A size code above 2 counts as 2.
+abbrev pub lastBlockSaid : ℕ → RecordFields → ℕ
+lastBlockSaid line fields =
+    cond (eqb (fields .size) 0)
+    (fields .address / 2 ^ line)
+    (cond (eqb (fields .size) 1) ((fields .address + 1) / 2 ^ line) ((fields .address + 3) / 2 ^ line))
+
+-- Rules 3.1 and 3.3: the blocks that a record touches. None if it is a bare step, else that of the first byte, and that of the last if it is another.
+abbrev pub recordBlocks : ℕ → RecordFields → List ℕ
+recordBlocks line fields =
+    cond (eqb (fields .kind) 0) []
+    ((fields .address / 2 ^ line)
+    ∷ cond (eqb (fields .address / 2 ^ line) (lastBlockSaid line fields)) [] (lastBlockSaid line fields ∷ []))
+
+-- The blocks that node n touches, as the bytes say it.
 abbrev pub blocksSaid : List ℕ → ℕ → List ℕ
-blocksSaid bytes n =
-    cond (eqb (recordBytes bytes n .kind) 0) [] ((recordBytes bytes n .address / 2 ^ headerBytes bytes .line) ∷ [])
+blocksSaid bytes n = recordBlocks (headerBytes bytes .line) (recordBytes bytes n)
 
 -- The blocks that nodes 0 to n - 1 touch; demand 1 promises that they are exactly these (`counted-blocks`).
 abbrev pub blocksBefore : List ℕ → ℕ → List ℕ

@@ -1,31 +1,29 @@
 -- Soundings of the reader and of what it reads by: a header and a record in which no two fields can change places unseen (they are no chart's:
 -- entry and arrows are not below N), a bare step, a read and a write, the limits of N, of the entry and of the blocks from both sides (rules 1.2, 1.4,
 -- 3.4, 11.5, 11.6, 11.8 and 11.10), two arrows to one node, and what looks alike and is allowed (rule 2.9).
--- Nothing here is a rule of the tool: these are examples, and `chart-sounded` in proofs/Sounded.antt holds the definitions to them.
+-- Nothing here is a rule of the tool: these are examples, and `chart-sounded` in proofs/Sounded.antt holds the definitions to them (`ChartSounded`).
 use Prim.Native.Nat.{ℕ, _+_, _*_, _-_, _/_, _%_}
 use mathlib.Core.Bool.{cond}
 use mathlib.Core.List.{List, [], _∷_, _++_, map}
-use mathlib.Core.Path.{_≡_}
 use lib.ListN.{replicate, set}
 use Rattle.lists.specs.Lists.{listOf, joined}
-use Rattle.lists.specs.Soundings.{Sounding, _reads_, Hold}
+use Rattle.lists.specs.Soundings.{Sounding, _reads_}
 use Rattle.chart.specs.declared.shape.Geometry.{Geometry}
 use Rattle.chart.specs.declared.records.Record.{Record}
 use Rattle.chart.specs.declared.records.Record.the-variants.{Step, Reference}
 use Rattle.chart.specs.declared.records.Node.{Node}
-use Rattle.chart.specs.declared.headers.Header.{Header}
 use Rattle.chart.specs.Layout.{wordAt}
-use Rattle.chart.specs.Header.{startCode, headerNumbers, headerIn, readHeaderSays}
+use Rattle.chart.specs.Header.{headerNumbers, headerIn, readHeaderSays}
 use Rattle.chart.specs.Record.{Touch, recordFields, recordKeeps, arrowsOf, touchesOf}
 use Rattle.chart.specs.Chart.{nodeAt}
 use Rattle.chart.specs.Reading.{readSays}
 
 -- ---- what is read off
 
--- A bare step is 0; a read is 1 and a write 2, each with its address.
+-- A bare step is 0; a read is 1 and a write 2, each with the addresses of its first and its last byte.
 abbrev pub recordOut : Record → List ℕ
 recordOut Step = 0 ∷ []
-recordOut (Reference reference) = cond (reference .write) 2 1 ∷ reference .address ∷ []
+recordOut (Reference reference) = cond (reference .write) 2 1 ∷ reference .address ∷ reference .last ∷ []
 
 -- What the node does, then the number of its arrows and their two fields.
 abbrev pub nodeOut : Node → List ℕ
@@ -49,13 +47,13 @@ emptyHeader = 0x01 ∷ 0x53 ∷ 0x64 ∷ 0x00 ∷ 0x0F ∷ 0xF1 ∷ 0x23 ∷ 0x0
 abbrev pub unknownHeader : List ℕ
 unknownHeader = 0x01 ∷ 0x53 ∷ 0x60 ∷ 0x00 ∷ 0x0F ∷ 0xF1 ∷ 0x23 ∷ 0x00 ∷ []
 
--- Under it, address 0xDEADBEEF read (node 0), written (node 1), and in a bare step, which may not have one (node 2); two arrows, to 0x123 and
--- to 0x456.
+-- Under it, address 0xDEADBEEF read, one byte (node 0), written, two bytes (node 1), and in a bare step, which may not have one (node 2); two arrows,
+-- to 0x123 and to 0x456.
 abbrev pub threeKinds : List ℕ
 threeKinds =
     emptyHeader
     ++ 0x77 ∷ 0xAB ∷ 0x6F ∷ 0xBB ∷ 0xE1 ∷ 0x23 ∷ 0x45 ∷ 0x60
-    ∷ 0xB7 ∷ 0xAB ∷ 0x6F ∷ 0xBB ∷ 0xE1 ∷ 0x23 ∷ 0x45 ∷ 0x60
+    ∷ 0xB7 ∷ 0xAB ∷ 0x6F ∷ 0xBB ∷ 0xE1 ∷ 0x23 ∷ 0x45 ∷ 0x61
     ∷ 0x37 ∷ 0xAB ∷ 0x6F ∷ 0xBB ∷ 0xE1 ∷ 0x23 ∷ 0x45 ∷ 0x60
     ∷ []
 
@@ -88,7 +86,7 @@ nodeTo kind outs first second =
 abbrev pub stepTo : ℕ → ℕ → ℕ → List ℕ
 stepTo outs first second = nodeTo 0 outs first second
 
--- A step that ends, and one that breaks another rule: a spare bit is set.
+-- A step that ends, and one that breaks another rule: its size code is 1.
 abbrev pub ends : List ℕ
 ends = stepTo 0 0 0
 
@@ -146,11 +144,11 @@ abbrev pub chartFields : List Sounding
 chartFields =
     (headerNumbers (headerIn emptyHeader) reads (5 ∷ 3 ∷ 6 ∷ 1 ∷ 255 ∷ 0x123 ∷ []))
     ∷ (headerNumbers (headerIn unknownHeader) reads (5 ∷ 3 ∷ 6 ∷ 0 ∷ 255 ∷ 0x123 ∷ []))
-    -- what `node_at` answers: the kind, the address of a read and of a write, and the arrows
-    ∷ (nodeOut (nodeAt threeKinds 0) reads (1 ∷ 0xDEADBEEF ∷ 2 ∷ 0x123 ∷ 0x456 ∷ []))
-    ∷ (nodeOut (nodeAt threeKinds 1) reads (2 ∷ 0xDEADBEEF ∷ 2 ∷ 0x123 ∷ 0x456 ∷ []))
+    -- what `node_at` answers: the kind, the addresses of the first and the last byte of a read and of a write, and the arrows
+    ∷ (nodeOut (nodeAt threeKinds 0) reads (1 ∷ 0xDEADBEEF ∷ 0xDEADBEEF ∷ 2 ∷ 0x123 ∷ 0x456 ∷ []))
+    ∷ (nodeOut (nodeAt threeKinds 1) reads (2 ∷ 0xDEADBEEF ∷ 0xDEADBEF0 ∷ 2 ∷ 0x123 ∷ 0x456 ∷ []))
     ∷ (nodeOut (nodeAt threeKinds 2) reads (0 ∷ 2 ∷ 0x123 ∷ 0x456 ∷ []))
-    -- a read and a write both touch the block that holds the address; a bare step touches none
+    -- a read of one byte and a write of two, both within one line, touch the block that they lie in; a bare step touches none
     ∷ (touchesOut (touchesOf longLines (nodeAt threeKinds 0 .what)) reads (1 ∷ 0xDEADBE ∷ []))
     ∷ (touchesOut (touchesOf longLines (nodeAt threeKinds 1 .what)) reads (2 ∷ 0xDEADBE ∷ []))
     ∷ (touchesOut (touchesOf longLines (nodeAt threeKinds 2 .what)) reads [])
@@ -187,13 +185,3 @@ nodeCounts =
     ∷ (readHeaderSays (headerAlone 1024 ++ replicate 8192 0x00) .header reads (2 ∷ 0 ∷ 2 ∷ 0 ∷ 1024 ∷ 0 ∷ []))
     ∷ (readOut (headerAlone 1025 ++ replicate 8200 0x00) reads (5 ∷ 0 ∷ 0 ∷ []))
     ∷ []
-
-pub record ChartSounded : Type 0 where
-  pub fields-hold : Hold chartFields
-  pub counts-hold : Hold nodeCounts
-  pub twins-hold : Hold twinArrows
-  pub header-whole : (header : Header)
-      → headerNumbers header ≡ header .geometry .line ∷ header .geometry .sets ∷ header .geometry .ways ∷ startCode (header .start) ∷ header .nodes ∷ header .entry ∷ []
-  -- 64 blocks are a chart; the 65th is brought by node 65
-  pub all-blocks : readOut (manyBlocks 65) ≡ 0 ∷ 0 ∷ 64 ∷ []
-  pub one-block-more : readOut (manyBlocks 66) ≡ 10 ∷ 65 ∷ 0 ∷ []

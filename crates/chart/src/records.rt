@@ -1,11 +1,11 @@
-// A node's record: what it does, where its arrows lead, and whether it keeps rules 2.1, 2.3, 2.4, 2.6 and 2.9. `first_broken` answers the
+// A node's record: what it does, where its arrows lead, and whether it keeps rules 2.1, 2.3, 2.4, 2.9, 2.11 and 2.12. `first_broken` answers the
 // first node whose record does not; nothing else here refuses, and a record that breaks a rule reads as something too. Callers keep bytes that hold
 // the record.
 ghost use mathlib.Core.Path.{_≡_};
 ghost use Prim.Native.Nat.{_+_, _^_, _≤_, _<_};
 ghost use lib.ListN.{length};
 ghost use Rattle.chart.specs.Layout.{chartLength};
-ghost use Rattle.chart.specs.Record.{recordFields, arrowKeeps, twins, recordKeeps, recordOf, nodeOf};
+ghost use Rattle.chart.specs.Record.{recordFields, arrowKeeps, twins, bytesOf, recordKeeps, recordOf, nodeOf};
 ghost use Rattle.chart.specs.Chart.{recordsIn, nodeAt, firstBroken};
 use crate::words::bits;
 use crate::words::word_at;
@@ -17,13 +17,14 @@ pub struct RecordFields {
     pub outs: u64,
     pub first: u64,
     pub second: u64,
-    pub spare: u64,
+    pub size: u64,
 }
 
-// A read or a write (rule 2.2).
+// A read or a write (rule 2.2), from its first byte to its last (rule 2.10). A record that is refused may end past 32 bits.
 pub struct Reference {
     pub write: bool,
     pub address: u32,
+    pub last: u64,
 }
 
 pub enum Record {
@@ -53,7 +54,7 @@ fn record_fields(word: u64) -> RecordFields
         outs: bits(word, 28, 2),
         first: bits(word, 16, 12),
         second: bits(word, 4, 12),
-        spare: bits(word, 0, 4),
+        size: bits(word, 0, 4),
     }
 }
 
@@ -65,6 +66,19 @@ fn fields_at(chart: &[u8], n: usize) -> RecordFields
     record_fields(word_at(chart, n + 1))
 }
 
+// How many bytes a size code says (rule 2.10); four for a code that there is not.
+fn bytes_of(size: u64) -> u64
+    ensures { λ r. ⌜ (r ≡ bytesOf size) × ((1 ≤ r) × (r ≤ 4)) ⌝ }
+{
+    if size == 0 {
+        return 1;
+    }
+    if size == 1 {
+        return 2;
+    }
+    4
+}
+
 // What the record of these fields does.
 fn record_of(fields: RecordFields) -> Record
     requires { ⌜ fields .address < 2 ^ 32 ⌝ }
@@ -74,9 +88,12 @@ fn record_of(fields: RecordFields) -> Record
     if kind == 0 {
         return Record::Step;
     }
+    let address = fields.address;
+    let bytes = bytes_of(fields.size);
     Record::Reference(Reference {
         write: kind == 2,
-        address: fields.address as u32,
+        address: address as u32,
+        last: address + bytes - 1,
     })
 }
 
@@ -132,10 +149,11 @@ fn record_keeps(nodes: usize, fields: RecordFields) -> bool
     let first = arrow_keeps(nodes, 0 < outs, fields.first);
     let second = arrow_keeps(nodes, 1 < outs, fields.second);
     let alike = twins(fields);
-    let fits = address < 4294967296;
-    let addressed = (kind != 0) | (address == 0);
-    let clear = fields.spare == 0;
-    (kind <= 2) & (fits & (addressed & ((outs <= 2) & (first & (second & (!alike & clear))))))
+    let size = fields.size;
+    let bytes = bytes_of(size);
+    let fits = address <= 4294967296 - bytes;
+    let refers = (kind != 0) | ((address == 0) & (size == 0));
+    (kind <= 2) & (fits & (refers & ((outs <= 2) & (first & (second & (!alike & (size <= 2)))))))
 }
 
 // The first node whose record breaks its rules, or `nodes` (rule 11.9).

@@ -18,8 +18,14 @@ impl Geometry {
 
     pub const WAYS: u8 = 8;
 
-    // What follows of them: the most ages of one kind, the bytes of the longest chart, and the passes that are enough for every chart.
+    // The most touches of a node: its reference is within one line, or goes into the next.
+    pub const TOUCHES: usize = 2;
+
+    // What follows of them: the most ages of one kind and the most classes, the bytes of the longest chart, and the passes that are enough for
+    // every chart.
     pub const AGES: usize = Geometry::NODES * Geometry::BLOCKS;
+
+    pub const CLASSES: usize = Geometry::TOUCHES * Geometry::NODES;
 
     pub const LONGEST: usize = 8 + 8 * Geometry::NODES;
 

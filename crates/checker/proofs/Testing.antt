@@ -96,16 +96,16 @@ module _ {columns plan : List ℕ} (drawn : Drawn columns plan) (lent : Lent) (n
       rw (mark, and-last) (λ i. fit-held i && (e ∙ (λ j. zeroed (is j) (rowAges (is j) (lent .must) (lent .may) n))) i)
 
   module _ (inside : n < nodesIn plan) (roomy : Roomy (nodesIn plan) (blocksIn plan) (lent .must) (lent .may) (lent .marks))
-      {node : PlannedNode} (found : node ≡ nodeIn plan n) {row : Row} (after : row ≡ rowAfter columns (lent .must) (lent .may) blocks n (node .what)) where
+      {node : PlannedNode} (found : node ≡ nodeIn plan n) {row : Ages} (after : row ≡ rowAfter columns (lent .must) (lent .may) blocks n (node .what)) where
     after-held : row ≡ rowAfter columns (lent .must) (lent .may) (blocksIn plan) n (nodeIn plan n .what)
     after-held = after ∙ (λ i. rowAfter columns (lent .must) (lent .may) (is i) n (found i .what))
 
-    pub marked-passing : (getD (lent .marks) n 0 ≡ 0 → ⊥) → {out : Bool} → out ≡ everyOf (allows blocks lent (agesIn row)) (arrowsOf (node .targets))
+    pub marked-passing : (getD (lent .marks) n 0 ≡ 0 → ⊥) → {out : Bool} → out ≡ everyOf (allows blocks lent row) (arrowsOf (node .targets))
         → (leb (getD (lent .marks) n 0) 1 && (fit && out)) ≡ nodePassing held lent n
     marked-passing mark {out} e =
         let agrees = after-agrees columns plan drawn n inside lent (roomy .must-room) (roomy .may-room) in
         let out-held : out ≡ everyOf (allows (blocksIn plan) lent (planFlow held .step n (agesAt held lent n))) (arrowsIn held n) =
         e
-        ∙ (λ i. everyOf (allows (is i) lent (agesIn (after-held i))) (arrowsOf (found i .targets)))
+        ∙ (λ i. everyOf (allows (is i) lent (after-held i)) (arrowsOf (found i .targets)))
         ∙ (λ i. everyOf (λ t. allows-agree (blocksIn plan) _ _ agrees lent t i) (sym (arrows-held columns plan n inside) i)) in
         rw (ne-eqb _ _ mark) (λ i. leb (getD (lent .marks) n 0) 1 && (fit-held i && out-held i))

@@ -9,6 +9,7 @@ ghost use Rattle.checker.specs.Checker.{nodePassing};
 use crate::allowing::targets_allow;
 use crate::fitting::row_fits;
 use crate::fitting::row_zero;
+use rows::Row;
 
 // Whether node n's mark is plain, its ages fit, and its row is 0 where it is not marked, or its targets allow its row after its record.
 fn node_passing(
@@ -32,8 +33,21 @@ fn node_passing(
     let node = plan::node_in(plan, n);
     let planned = node.what;
     let targets = node.targets;
-    let after = tables::row_after(columns, must, may, blocks, n, planned);
-    (marks[n] <= 1) & (fits & targets_allow(must, may, marks, blocks, after, targets))
+    let mut musts = tables::load_row(must, blocks, n);
+    let mut mays = tables::load_row(may, blocks, n);
+    rows::step(&mut musts, &mut mays, columns, planned);
+    let allowed = targets_allow(
+        must,
+        may,
+        marks,
+        blocks,
+        Row {
+            must: musts,
+            may: mays,
+        },
+        targets,
+    );
+    (marks[n] <= 1) & (fits & allowed)
 }
 
 // Whether every node passes. All are tested, though the first that fails decides.

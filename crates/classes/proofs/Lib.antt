@@ -1,1 +1,2 @@
 pub mod Calling
+pub mod Places

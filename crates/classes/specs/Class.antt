@@ -1,7 +1,6 @@
--- The classes of touches and of nodes. Rules 8.1 and 8.2.
--- Choices: A is here the most that the must age of a column can be, also for a miss; a node has the class of its first touch, and there is
--- never a second.
-use Prim.Native.Nat.{ℕ}
+-- The classes of touches and of nodes. Rules 8.1, 8.2 and 12.2.
+-- A choice: A is here the most that the must age of a column can be, also for a miss.
+use Prim.Native.Nat.{ℕ, _*_, _/_, _%_}
 use mathlib.Core.Bool.{Bool, true, false}
 use mathlib.Core.Logic.{_⊎_}
 use mathlib.Core.Path.{_≡_}
@@ -10,10 +9,10 @@ use lib.ListN.{getD}
 use lib.Dec.{ltb, eqb}
 use Rattle.lists.specs.Choice.{_⇒_, firstCase}
 use Rattle.lists.specs.Lists.{listOf}
+use Rattle.chart.specs.Geometry.{mostTouches}
 use Rattle.cache.specs.Ages.{Ages, ageOf}
 use Rattle.flow.specs.Flow.{Cell, blank, holds, cellAt}
-use Rattle.ages.specs.declared.ColumnTouch.{ColumnTouch}
-use Rattle.ages.specs.Plan.{Plan, columnsOf, touchesIn, afterTouch}
+use Rattle.ages.specs.Plan.{ColumnTouch, Plan, columnsOf, touchesIn, afterTouch}
 
 -- Rule 8.1: the numbers of the classes.
 abbrev pub unreached : ℕ
@@ -53,14 +52,15 @@ classesBy classAt touchedBy (touch ∷ touches) a = classAt touch a ∷ classesB
 abbrev pub classesOf : Plan → List ColumnTouch → Ages → List ℕ
 classesOf plan touches a = classesBy (classOf plan) (afterTouch plan) touches a
 
--- Rule 8.1: the class of a node, its touch's if it has a mark and a touch.
-abbrev pub nodeClass : Plan → ℕ → Cell Ages → ℕ
-nodeClass plan n blank = unreached
-nodeClass plan n (holds a) = getD (classesOf plan (touchesIn plan n) a) 0 none
+-- Rule 8.1: class k of a node, from 0, that of its touch k if it has a mark and so many touches.
+abbrev pub nodeClass : Plan → ℕ → ℕ → Cell Ages → ℕ
+nodeClass plan n k blank = unreached
+nodeClass plan n k (holds a) = getD (classesOf plan (touchesIn plan n) a) k none
 
--- Rule 8.1: the class of each node.
+-- Rules 8.1 and 12.2: the classes of all nodes, as many of each as a node can have touches, node by node and the first touch's first.
 abbrev pub tableClasses : Plan → List (Cell Ages) → List ℕ
-tableClasses plan table = listOf (plan .nodes) (λ n. nodeClass plan n (cellAt table n))
+tableClasses plan table =
+    listOf (mostTouches * plan .nodes) (λ i. nodeClass plan (i / mostTouches) (i % mostTouches) (cellAt table (i / mostTouches)))
 
 -- What is called a hit is found, and what is called a miss is not.
 pub record CalledRight (class : ℕ) (found : Bool) : Type 0 where

@@ -41,7 +41,7 @@ abbrev pub visitCost : {S : Type 0} → (S → List ℕ) → (ℕ → ℕ) → C
 visitCost classes rate blank = 0
 visitCost classes rate (holds a) = ratesOf rate (classes a)
 
--- Rules 10.2 and 10.3: so many times what one visit counts, over all nodes. Only references that are marked count anything.
+-- Rules 10.2 and 10.3: so many times what one visit counts, over all nodes. Only touches of marked nodes count anything.
 unfoldable pub totalBy : {S : Type 0} → ℕ → (ℕ → S → List ℕ) → List (Cell S) → (ℕ → ℕ) → List ℕ → ℕ
 totalBy nodes classesAt table rate times =
     sumOf nodes (λ n. getD times n 0 * visitCost (classesAt n) rate (cellAt table n))
@@ -68,6 +68,6 @@ highTotal plan table figures = highTotalBy (plan .nodes) (classesAt plan) table 
 abbrev pub lowTotal : Plan → List (Cell Ages) → Figures → ℕ
 lowTotal plan table figures = lowTotalBy (plan .nodes) (classesAt plan) table figures
 
--- Rules 10.2 and 10.3: the same by the node's class, where a node has at most one touch.
+-- Rules 10.2 and 10.3, of one class: what a touch of it counts. Nothing, where a node is not reached or makes no such touch.
 abbrev pub classCost : (ℕ → ℕ) → ℕ → ℕ
 classCost rate class = cond (eqb class unreached || eqb class none) 0 (rate class)

@@ -5,7 +5,6 @@ use mathlib.Core.List.{List}
 use mathlib.Core.Path.{_≡_, refl, sym, ap, _∙_, subst}
 use native.Mathlib.Omega.{arith}
 use lib.ListN.{length, replicate, length-replicate}
-use Rattle.lists.proofs.Listed.{length-listOf}
 use Rattle.lists.proofs.Joined.{length-written}
 use Rattle.refusals.specs.declared.Refusal.the-variants.{ShortBuffer}
 use Rattle.chart.specs.Chart.{Chart, Read, accepted, refused, readChart, blockCount}
@@ -21,6 +20,7 @@ use Rattle.tables.proofs.Laid.{must-laid, may-laid, marks-laid, long-enough}
 use Rattle.tables.proofs.Fitting.{afterPasses-fits}
 use Rattle.analysis.specs.declared.Analysed.the-variants.{Settled, Unsettled, Refused}
 use Rattle.classes.specs.Class.{tableClasses}
+use Rattle.classes.proofs.Places.{classes-long}
 use Rattle.analysis.proofs.Room.{room-parts, parts-room}
 use Rattle.analysis.specs.Analysis.{Buffers, Left, tableIn, classesUsed, buffersShort, fill, zeroLent, filledBy, refuse, finish, analyseRead, analysed}
 use Rattle.demands.specs.Demand1.{AllChange, AnalysisRefusals, SameLengths}
@@ -111,7 +111,7 @@ module _ (chart : Chart) (lent : Buffers) (room : buffersShort (planOf chart) le
   unfolding finish
   finished-lengths allowance (settled k U) q =
       let fits = subst (TableFits (planOf chart)) (sym (settle-after (agesFlow chart) allowance k U q .table)) (afterPasses-fits (planOf chart) k) in
-      filled-lengths (lentOf (planOf chart) U) (tableClasses (planOf chart) U) (must-laid (planOf chart) fits) (may-laid (planOf chart) fits) (marks-laid (planOf chart) fits) (length-listOf (chart .header .nodes) _)
+      filled-lengths (lentOf (planOf chart) U) (tableClasses (planOf chart) U) (must-laid (planOf chart) fits) (may-laid (planOf chart) fits) (marks-laid (planOf chart) fits) (classes-long (planOf chart) U)
   finished-lengths allowance spent q =
       filled-lengths (zeroLent (planOf chart)) (replicate (classesUsed (planOf chart)) 0) (length-replicate _ _) (length-replicate _ _) (length-replicate _ _) (length-replicate _ _)
 

@@ -8,7 +8,7 @@ use native.Mathlib.Omega.{arith}
 use lib.ListN.{length, replicate, length-replicate}
 use Rattle.chart.specs.declared.headers.Start.{Start}
 use Rattle.chart.specs.declared.headers.Start.the-variants.{Unknown, Empty}
-use Rattle.chart.specs.Geometry.{mostNodes, mostBlocks, mostWays, setOf, passesFor, allPasses}
+use Rattle.chart.specs.Geometry.{mostTouches, mostNodes, mostBlocks, mostWays, setOf, passesFor, allPasses}
 use Rattle.chart.specs.Chart.{Chart, Read, accepted, refused, readChart, blockCount}
 use Rattle.chart.specs.Bytes.{AreBytes}
 use Rattle.chart.proofs.Saying.{accepted-says}
@@ -22,7 +22,7 @@ use Rattle.flow.specs.Passing.{Marked, Tightest}
 use Rattle.flow.specs.Pass.{settled}
 use Rattle.flow.proofs.Outcomes.{settle-agree}
 use Rattle.ages.specs.Charted.{blockAt, isEmpty, planOf, agesFlow, mostPasses}
-use Rattle.ages.proofs.Charting.{key-alike, set-alike, must-limit-planned, may-limit-planned, limits-planned, enough-planned, chart-sound, reached-planned, planned-reached}
+use Rattle.ages.proofs.Charting.{key-alike, set-alike, must-limit-planned, may-limit-planned, limits-planned, enough-planned, chart-sound, step-touches, reached-planned, planned-reached}
 use Rattle.tables.specs.Lent.{agesUsed}
 use Rattle.tables.specs.Fitting.{TableFits}
 use Rattle.tables.proofs.Laid.{table-over, not-short, over-passes}
@@ -149,7 +149,7 @@ zeros-room chart nodes blocks n b =
     let ages : agesUsed (planOf chart) ≤ nodes * blocks = mul-le-mul n b in
     parts-room (planOf chart) (zeroBuffers nodes blocks) (room blocks (blockCount chart) b)
     (not-short (planOf chart) (tableIn (zeroBuffers nodes blocks)) (room (nodes * blocks) (agesUsed (planOf chart)) ages) (room (nodes * blocks) (agesUsed (planOf chart)) ages) (room nodes (chart .header .nodes) n))
-    (room nodes (chart .header .nodes) n)
+    (room (mostTouches * nodes) (mostTouches * chart .header .nodes) (omega arith))
   where
     room : (size used : ℕ) → used ≤ size → used ≤ length (replicate {A = ℕ} size 0)
     room size used h = omega (arith, length-replicate {A = ℕ} size 0)
@@ -172,6 +172,7 @@ pub demand2 : Demand2
 demand2 =
     record {
       published = as-published;
+      touch-by-touch = step-touches;
       shape-said = shape-said;
       keys-sets = key-alike;
       sets-keys = set-alike;

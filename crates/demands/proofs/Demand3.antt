@@ -1,5 +1,5 @@
 -- Demand 3: what the tool says is true of the plain machine, at each step of every walk, and what the machine pays lies between the totals.
-use Prim.Native.Nat.{ℕ, _<_}
+use Prim.Native.Nat.{ℕ, _+_, _*_, _<_}
 use mathlib.Core.Bool.{true, not}
 use mathlib.Core.List.{List, _++_}
 use mathlib.Core.Path.{_≡_, refl, sym, ap, _∙_, subst}
@@ -8,7 +8,6 @@ use borrow.Author.Tests.{eq-eqb}
 use lib.Dec.{eqb}
 use lib.ListN.{getD, length, drop}
 use Rattle.lists.proofs.Joined.{getD-written}
-use Rattle.lists.proofs.Listed.{length-listOf, getD-listOf}
 use Rattle.chart.specs.Chart.{Chart, accepted, readChart, touches}
 use Rattle.refusals.proofs.Numbers.{number-tag}
 use Rattle.cache.specs.Ages.{Ages}
@@ -20,7 +19,8 @@ use Rattle.flow.proofs.Walking.{at-nodes, visitsOf-zero, at-nodes-both}
 use Rattle.tables.specs.Lent.{Lent, tableOf, TablePasses}
 use Rattle.tables.proofs.Laid.{tableOf-at}
 use Rattle.analysis.specs.declared.Analysed.the-variants.{Settled}
-use Rattle.classes.specs.Class.{nodeClass, tableClasses}
+use Rattle.classes.specs.Class.{nodeClass, tableClasses, CalledRight}
+use Rattle.classes.proofs.Places.{classes-long, first-listed, second-listed}
 use Rattle.analysis.specs.Analysis.{Buffers, tableIn, analysed}
 use Rattle.checker.specs.Checker.{marked}
 use Rattle.totals.specs.declared.Totals.the-variants.{Between, Refused}
@@ -117,14 +117,20 @@ module _ (bytes : List ℕ) (chart : Chart) (allowance passes blocks : ℕ) (len
   abbrev left : Buffers
   left = analysed bytes allowance lent .buffers
 
-  written-class : (n : ℕ) → n < chart .header .nodes → getD (left .classes) n 0 ≡ nodeClass (planOf chart) n (cellAt (tableOf (planOf chart) (tableIn left)) n)
-  written-class n h =
+  -- What stands at a place among the used classes.
+  written-class : (i : ℕ) → i < 2 * chart .header .nodes → getD (left .classes) i 0 ≡ getD (tableClasses (planOf chart) (tableOf (planOf chart) (tableIn left))) i 0
+  written-class i h =
       let settles = demand2 .settled bytes chart allowance passes blocks lent (on .read) done in
-      let long = length-listOf (chart .header .nodes) (λ k. nodeClass (planOf chart) k (cellAt (tableOf (planOf chart) (tableIn left)) k)) in
-      ap (λ (b : Buffers). getD (b .classes) n 0) (settles .filled)
-      ∙ ap (λ (T : List (Cell Ages)). getD (tableClasses (planOf chart) T ++ drop (length (tableClasses (planOf chart) T)) (lent .classes)) n 0) (sym (settles .table))
-      ∙ getD-written (tableClasses (planOf chart) (tableOf (planOf chart) (tableIn left))) (lent .classes) n 0 (omega arith)
-      ∙ getD-listOf (chart .header .nodes) (λ k. nodeClass (planOf chart) k (cellAt (tableOf (planOf chart) (tableIn left)) k)) 0 n h
+      let long = classes-long (planOf chart) (tableOf (planOf chart) (tableIn left)) in
+      ap (λ (b : Buffers). getD (b .classes) i 0) (settles .filled)
+      ∙ ap (λ (T : List (Cell Ages)). getD (tableClasses (planOf chart) T ++ drop (length (tableClasses (planOf chart) T)) (lent .classes)) i 0) (sym (settles .table))
+      ∙ getD-written (tableClasses (planOf chart) (tableOf (planOf chart) (tableIn left))) (lent .classes) i 0 (omega arith)
+
+  first-written : (n : ℕ) → n < chart .header .nodes → nodeClass (planOf chart) n 0 (cellAt (tableOf (planOf chart) (tableIn left)) n) ≡ getD (left .classes) (2 * n) 0
+  first-written n h = sym (written-class (2 * n) (omega arith) ∙ first-listed (planOf chart) (tableOf (planOf chart) (tableIn left)) n h)
+
+  second-written : (n : ℕ) → n < chart .header .nodes → nodeClass (planOf chart) n 1 (cellAt (tableOf (planOf chart) (tableIn left)) n) ≡ getD (left .classes) (2 * n + 1) 0
+  second-written n h = sym (written-class (2 * n + 1) (omega arith) ∙ second-listed (planOf chart) (tableOf (planOf chart) (tableIn left)) n h)
 
   abbrev laid : TablePasses (planOf chart) (tableIn left)
   laid = demand2 .settled bytes chart allowance passes blocks lent (on .read) done .table-passes
@@ -133,9 +139,11 @@ module _ (bytes : List ℕ) (chart : Chart) (allowance passes blocks : ℕ) (len
   class-true n c arrived =
       let says = arrived-true bytes chart (on .read) (tableIn left) (laid .equations) n c arrived in
       record {
-        hit-hits = λ block one e. says .node-hit block one (sym (written-class n (arrived .inside)) ∙ e);
-        reached = λ e. arrived-reached bytes chart (on .read) (tableIn left) (laid .equations) n c arrived (sym (written-class n (arrived .inside)) ∙ e);
-        miss-misses = λ block one e. says .node-miss block one (sym (written-class n (arrived .inside)) ∙ e);
+        first-reached = λ e. arrived-reached bytes chart (on .read) (tableIn left) (laid .equations) n c arrived 0 (first-written n (arrived .inside) ∙ e);
+        second-reached = λ e. arrived-reached bytes chart (on .read) (tableIn left) (laid .equations) n c arrived 1 (second-written n (arrived .inside) ∙ e);
+        first-right = λ touch rest all. subst (λ (class : ℕ). CalledRight class (plainMachine chart .finds touch c)) (first-written n (arrived .inside)) (says .first-right touch rest all);
+        second-right = λ touch other rest all.
+            subst (λ (class : ℕ). CalledRight class (plainMachine chart .finds other (plainMachine chart .act touch c))) (second-written n (arrived .inside)) (says .second-right touch other rest all);
       }
 
   pub settled-true : AtEachNode chart (ClassTrue chart (left .classes)) ts cache

@@ -10,3 +10,6 @@ pub mod Demand2
 pub mod Demand3
 pub mod Demands
 pub mod Anywhere
+pub mod Leaving
+pub mod Paying
+pub mod Taking

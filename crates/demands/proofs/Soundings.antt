@@ -31,13 +31,18 @@ use Rattle.report.specs.Report.{report}
 use Rattle.report.specs.Ending.{refuses}
 use Rattle.report.proofs.Refusing.{refusal-told}
 use Rattle.machine.specs.Machine.{keyOf, plainMachine}
+use Rattle.ages.specs.Plan.{planFlow}
 use Rattle.demands.proofs.Anywhere.{anywhere}
+use Rattle.demands.proofs.Leaving.{leaving}
+use Rattle.demands.proofs.Paying.{paying}
+use Rattle.demands.proofs.Taking.{taking}
 use Rattle.demands.specs.Soundings.{starred, loopFigures, tenTurns}
 use Rattle.demands.specs.Refused.{damaged, unanalysed}
 use Rattle.demands.specs.Tabled.{unchecked, looser, untotalled, summed}
 use Rattle.demands.specs.Corners.{corners, unknownStart, strangers}
 use Rattle.demands.specs.Shared.{sharedSoundings, shapeSoundings}
 use Rattle.demands.specs.Edges.{leftBehind, edges, elevenSteps, elevenReport}
+use Rattle.demands.specs.Straddling.{straddle, straddleReport, straddling, straddlingPaid}
 use Rattle.demands.specs.Mistakes.{right, mistaken}
 use Rattle.demands.specs.Examples.{examples}
 use Rattle.demands.specs.Charts.{loopChart}
@@ -120,6 +125,18 @@ eleven-report : report elevenSteps ≡ elevenReport
 unfolding all-unfolded
 eleven-report = refl
 
+straddling-hold : Hold straddling
+unfolding all-unfolded
+straddling-hold = refl
+
+straddling-paid : Hold straddlingPaid
+unfolding all-unfolded
+straddling-paid = refl
+
+straddle-report : report straddle ≡ straddleReport
+unfolding all-unfolded
+straddle-report = refl
+
 shapes-hold : Hold shapeSoundings
 unfolding all-unfolded
 shapes-hold = refl
@@ -165,6 +182,9 @@ sounded =
       passes-allowed = refl;
       passes-enough = refl;
       at-any-number = anywhere;
+      left-at-any = leaving;
+      paid-at-any = paying;
+      taken-at-any = λ plan. taking (planFlow plan);
       sample-not-refused = refl;
       no-bytes-refused = refl;
       refusal-told = refusal-told;
@@ -180,6 +200,9 @@ sounded =
       left-behind-hold = left-behind-hold;
       edges-hold = edges-hold;
       eleven-report = eleven-report;
+      straddling-hold = straddling-hold;
+      straddling-paid = straddling-paid;
+      straddle-report = straddle-report;
       hit-called = λ limit must may h. rw (lt-ltb must limit h);
       miss-called = λ limit must may h e. rw (le-ltb must limit h, eq-eqb may limit e);
       unsure-called = λ limit must may h e. rw (le-ltb must limit h, ne-eqb may limit e);

@@ -1,5 +1,5 @@
 -- What a passing table says is true of the plain machine at each node of a walk.
-use Prim.Native.Nat.{ℕ, _<_}
+use Prim.Native.Nat.{ℕ, zero, suc, _<_}
 use mathlib.Core.Bool.{Bool, true, false}
 use mathlib.Core.List.{List, [], _∷_}
 use mathlib.Core.Logic.{⊎-elim}
@@ -16,8 +16,7 @@ use Rattle.flow.specs.Passing.{Marked, Passing}
 use Rattle.flow.specs.Walk.{Walk, AtTouches}
 use Rattle.flow.specs.Truths.{SaysOf, SaysAt}
 use Rattle.flow.proofs.Walking.{at-touches, walk-true, walk-begins, at-nodes}
-use Rattle.ages.specs.declared.ColumnTouch.{ColumnTouch}
-use Rattle.ages.specs.Plan.{columnsOf, touchesIn, afterTouch}
+use Rattle.ages.specs.Plan.{ColumnTouch, columnsOf, touchesIn, afterTouch}
 use Rattle.ages.specs.Charted.{columnTouch, planOf, agesFlow, touchedBy}
 use Rattle.ages.proofs.Charting.{touches-planned, onward-planned}
 use Rattle.classes.specs.Class.{classOf, nodeClass, CalledRight, unreached, none, classesBy, classesOf}
@@ -74,40 +73,45 @@ module _ (bytes : List ℕ) (chart : Chart) (read : readChart bytes ≡ accepted
     abbrev classes : List ℕ
     classes = classesBy (touchClass chart) (touchedBy chart) (touches chart n) (agesAt (planOf chart) table n)
 
-    class-first : nodeClass (planOf chart) n (cellAt (tableOf (planOf chart) table) n) ≡ getD classes 0 none
-    class-first =
-        ap (nodeClass (planOf chart) n) (arrived .marked)
-        ∙ ap (λ (l : List ℕ). getD l 0 none) (classes-charted chart n (arrived .inside) (agesAt (planOf chart) table n))
+    class-is : (k : ℕ) → nodeClass (planOf chart) n k (cellAt (tableOf (planOf chart) table) n) ≡ getD classes k none
+    class-is k =
+        ap (nodeClass (planOf chart) n k) (arrived .marked)
+        ∙ ap (λ (l : List ℕ). getD l k none) (classes-charted chart n (arrived .inside) (agesAt (planOf chart) table n))
 
-    module _ (touch : Touch) (one : touches chart n ≡ touch ∷ []) where
-      node-called : TouchRight chart touch (agesAt (planOf chart) table n) contents
-      node-called =
-          subst (λ (ts : List Touch). AtTouches (touchedBy chart) (plainMachine chart .act) (TouchRight chart) ts (agesAt (planOf chart) table n) contents) one touches-called .0
+    module _ (made : List Touch) (all : touches chart n ≡ made) where
+      -- The same by what the node is known to touch.
+      made-class : (k : ℕ) → getD (classesBy (touchClass chart) (touchedBy chart) made (agesAt (planOf chart) table n)) k none ≡ nodeClass (planOf chart) n k (cellAt (tableOf (planOf chart) table) n)
+      made-class k =
+          sym (class-is k ∙ ap (λ (ts : List Touch). getD (classesBy (touchClass chart) (touchedBy chart) ts (agesAt (planOf chart) table n)) k none) all)
 
-      node-class : nodeClass (planOf chart) n (cellAt (tableOf (planOf chart) table) n) ≡ touchClass chart touch (agesAt (planOf chart) table n)
-      node-class =
-          class-first
-          ∙ ap (λ (ts : List Touch). getD (classesBy (touchClass chart) (touchedBy chart) ts (agesAt (planOf chart) table n)) 0 none) one
+      made-called : AtTouches (touchedBy chart) (plainMachine chart .act) (TouchRight chart) made (agesAt (planOf chart) table n) contents
+      made-called =
+          subst (λ (ts : List Touch). AtTouches (touchedBy chart) (plainMachine chart .act) (TouchRight chart) ts (agesAt (planOf chart) table n) contents) all touches-called
 
     pub arrived-true : SaysTrue chart table n contents
     arrived-true =
         record {
           marked = subst Marked (sym (arrived .marked)) tt;
           ages-true = arrived .bounds;
-          node-hit = λ touch one e. node-called touch one .hit-hits (sym (node-class touch one) ∙ e);
-          node-miss = λ touch one e. node-called touch one .miss-misses (sym (node-class touch one) ∙ e);
+          first-right = λ touch rest all.
+              subst (λ (class : ℕ). CalledRight class (plainMachine chart .finds touch contents)) (made-class (touch ∷ rest) all 0)
+              (made-called (touch ∷ rest) all .0);
+          second-right = λ touch other rest all.
+              subst (λ (class : ℕ). CalledRight class (plainMachine chart .finds other (plainMachine chart .act touch contents))) (made-class (touch ∷ other ∷ rest) all 1)
+              (made-called (touch ∷ other ∷ rest) all .1 .0);
           called-right = touches-called;
         }
 
     -- A node that is arrived at is not called unreached.
-    pub arrived-reached : nodeClass (planOf chart) n (cellAt (tableOf (planOf chart) table) n) ≡ unreached → ⊥
-    arrived-reached e = go (touches chart n) (sym class-first ∙ e)
+    pub arrived-reached : (k : ℕ) → nodeClass (planOf chart) n k (cellAt (tableOf (planOf chart) table) n) ≡ unreached → ⊥
+    arrived-reached k e = go (touches chart n) (agesAt (planOf chart) table n) k (sym (class-is k) ∙ e)
       where
-        go : (ts : List Touch) → getD (classesBy (touchClass chart) (touchedBy chart) ts (agesAt (planOf chart) table n)) 0 none ≡ unreached → ⊥
-        go [] q = omega arith
-        go (touch ∷ ts) q =
+        go : (ts : List Touch) (a : Ages) (i : ℕ) → getD (classesBy (touchClass chart) (touchedBy chart) ts a) i none ≡ unreached → ⊥
+        go [] a i q = omega arith
+        go (touch ∷ ts) a zero q =
             ⊎-elim (λ h. omega arith) (λ later. ⊎-elim (λ h. omega arith) (λ h. omega arith) later)
-            (class-cases (columnsOf (planOf chart) .mustLimit (columnTouch chart touch .column)) (ageOf (agesAt (planOf chart) table n .must) (columnTouch chart touch .column)) (ageOf (agesAt (planOf chart) table n .may) (columnTouch chart touch .column)))
+            (class-cases (columnsOf (planOf chart) .mustLimit (columnTouch chart touch .column)) (ageOf (a .must) (columnTouch chart touch .column)) (ageOf (a .may) (columnTouch chart touch .column)))
+        go (touch ∷ ts) a (suc i) q = go ts (touchedBy chart touch a) i q
 
     abbrev pub arrived-right : RightHere chart table n contents
     arrived-right =

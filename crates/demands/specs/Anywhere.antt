@@ -1,20 +1,20 @@
 -- What is so at every node, place, length and number, however large. Soundings are of small charts: a rule that changes from some number on, in
--- definition and code alike, would pass them all. The limits stand here as numbers, and not by name. Rules 1.4, 6.5, 8.1, 8.2, 11.0, 12.2, 13.1 to
--- 13.3, 14.1, 14.2 and 14.4. `anywhere` in proofs/Anywhere.antt proves it.
+-- definition and code alike, would pass them all. The limits stand here as numbers, and not by name. Rules 1.4, 3.3, 6.3 to 6.5, 8.1, 8.2, 10.2, 10.3,
+-- 11.0, 12.2, 13.1 to 13.3, 14.1, 14.2 and 14.4. `anywhere` in proofs/Anywhere.antt proves it.
 use Prim.Native.Nat.{ℕ, suc, _+_, _*_, _/_, _%_, _≤_, _<_}
 use mathlib.Core.List.{List, [], _∷_, _++_}
 use mathlib.Core.Path.{_≡_}
-use lib.ListN.{getD, take}
+use lib.ListN.{length, getD, take}
 use Rattle.lists.specs.Lists.{listOf, joined}
 use Rattle.refusals.specs.declared.Refusal.the-variants.{BrokenRecord, TooManyBlocks, FloorAboveCeiling, FloorAtUnmarked}
 use Rattle.refusals.specs.Refusals.{placeOf}
 use Rattle.chart.specs.Geometry.{mostNodes}
 use Rattle.flow.specs.Flow.{Cell, blank, holds, cellAt}
 use Rattle.cache.specs.Ages.{Ages, touchAges}
-use Rattle.ages.specs.declared.ColumnTouch.{ColumnTouch}
-use Rattle.ages.specs.Plan.{Plan, columnsOf, touchesIn, planFlow}
+use Rattle.ages.specs.Plan.{ColumnTouch, Plan, columnsOf, touchesIn, planFlow}
 use Rattle.layout.specs.Rows.{rowAt}
 use Rattle.classes.specs.Class.{classOf, nodeClass, tableClasses}
+use Rattle.costs.specs.Costs.{visitCost, classesAt}
 use Rattle.analysis.specs.declared.Analysed.the-variants.{Settled}
 use Rattle.analysis.specs.Analysis.{Left, analysed}
 use Rattle.report.specs.Text.{nodesWord, blocksWord, passesWord, decimalBy, decimal}
@@ -38,7 +38,7 @@ pub record Anywhere : Type 0 where
       ≡ nodesWord ++ (32 ∷ []) ++ decimal nodes ++ (32 ∷ []) ++ blocksWord ++ (32 ∷ []) ++ decimal blocks ++ (32 ∷ [])
       ++ passesWord ++ (32 ∷ []) ++ decimal passes ++ (10 ∷ [])
       ++ joined (listOf nodes (nodeLine classes))
-  pub node-line : (classes : List ℕ) (n : ℕ) → nodeLine classes n ≡ decimal n ++ (32 ∷ []) ++ classWord (getD classes n 0) ++ (10 ∷ [])
+  pub node-line : (classes : List ℕ) (n : ℕ) → nodeLine classes n ≡ decimal n ++ (32 ∷ classWord (getD classes (2 * n) 0)) ++ (32 ∷ classWord (getD classes (2 * n + 1) 0)) ++ (10 ∷ [])
   -- rule 14.4: of at most 20 digits, the last one behind those of a tenth
   pub most-digits : (n : ℕ) → decimal n ≡ decimalBy 20 n
   pub one-digit : (digits n : ℕ) → n < 10 → decimalBy (suc digits) n ≡ (48 + n) ∷ []
@@ -47,15 +47,34 @@ pub record Anywhere : Type 0 where
   pub places : (n : ℕ)
       → placeOf (BrokenRecord n) ∷ placeOf (TooManyBlocks n) ∷ placeOf (FloorAboveCeiling n) ∷ placeOf (FloorAtUnmarked n) ∷ []
       ≡ n ∷ n ∷ n ∷ n ∷ []
-  -- rules 8.1 and 8.2: a node's class, whichever node it is
-  pub class-listed : (plan : Plan) (table : List (Cell Ages)) (n : ℕ) → n < plan .nodes → getD (tableClasses plan table) n 0 ≡ nodeClass plan n (cellAt table n)
-  pub class-unmarked : (plan : Plan) (n : ℕ) → nodeClass plan n blank ≡ 0
-  pub class-of-none : (plan : Plan) (n : ℕ) (a : Ages) → touchesIn plan n ≡ [] → nodeClass plan n (holds a) ≡ 4
-  pub class-of-touch : (plan : Plan) (n : ℕ) (a : Ages) (touch : ColumnTouch) → touchesIn plan n ≡ touch ∷ [] → nodeClass plan n (holds a) ≡ classOf plan touch a
-  -- rule 6.5: what a node does to the ages, whichever node it is
+  -- rules 8.1, 8.2 and 12.2: a node's two classes and their places, whichever node it is; the second is read after the first touch
+  pub classes-long : (plan : Plan) (table : List (Cell Ages)) → length (tableClasses plan table) ≡ 2 * plan .nodes
+  pub first-listed : (plan : Plan) (table : List (Cell Ages)) (n : ℕ) → n < plan .nodes → getD (tableClasses plan table) (2 * n) 0 ≡ nodeClass plan n 0 (cellAt table n)
+  pub second-listed : (plan : Plan) (table : List (Cell Ages)) (n : ℕ) → n < plan .nodes → getD (tableClasses plan table) (2 * n + 1) 0 ≡ nodeClass plan n 1 (cellAt table n)
+  pub class-unmarked : (plan : Plan) (n k : ℕ) → nodeClass plan n k blank ≡ 0
+  pub class-of-none : (plan : Plan) (n k : ℕ) (a : Ages) → touchesIn plan n ≡ [] → nodeClass plan n k (holds a) ≡ 4
+  pub class-of-touch : (plan : Plan) (n : ℕ) (a : Ages) (touch : ColumnTouch)
+      → touchesIn plan n ≡ touch ∷ []
+      → (nodeClass plan n 0 (holds a) ≡ classOf plan touch a) × (nodeClass plan n 1 (holds a) ≡ 4)
+  pub class-of-two : (plan : Plan) (n : ℕ) (a : Ages) (touch other : ColumnTouch)
+      → touchesIn plan n ≡ touch ∷ other ∷ []
+      → (nodeClass plan n 0 (holds a) ≡ classOf plan touch a) × (nodeClass plan n 1 (holds a) ≡ classOf plan other (touchAges (columnsOf plan) (touch .column) a))
+  -- rules 10.2 and 10.3: what a visit of a node counts, whichever node it is
+  pub cost-unmarked : (plan : Plan) (n : ℕ) (rate : ℕ → ℕ) → visitCost (classesAt plan n) rate blank ≡ 0
+  pub cost-of-none : (plan : Plan) (n : ℕ) (a : Ages) (rate : ℕ → ℕ) → touchesIn plan n ≡ [] → visitCost (classesAt plan n) rate (holds a) ≡ 0
+  pub cost-of-touch : (plan : Plan) (n : ℕ) (a : Ages) (rate : ℕ → ℕ) (touch : ColumnTouch)
+      → touchesIn plan n ≡ touch ∷ []
+      → visitCost (classesAt plan n) rate (holds a) ≡ rate (classOf plan touch a)
+  pub cost-of-two : (plan : Plan) (n : ℕ) (a : Ages) (rate : ℕ → ℕ) (touch other : ColumnTouch)
+      → touchesIn plan n ≡ touch ∷ other ∷ []
+      → visitCost (classesAt plan n) rate (holds a) ≡ rate (classOf plan touch a) + rate (classOf plan other (touchAges (columnsOf plan) (touch .column) a))
+  -- rules 3.3 and 6.3 to 6.5: what a node does to the ages, whichever node it is
   pub bare-step : (plan : Plan) (n : ℕ) (a : Ages) → touchesIn plan n ≡ [] → planFlow plan .step n a ≡ a
   pub one-touch : (plan : Plan) (n : ℕ) (a : Ages) (touch : ColumnTouch)
       → touchesIn plan n ≡ touch ∷ []
       → planFlow plan .step n a ≡ touchAges (columnsOf plan) (touch .column) a
+  pub two-touches : (plan : Plan) (n : ℕ) (a : Ages) (touch other : ColumnTouch)
+      → touchesIn plan n ≡ touch ∷ other ∷ []
+      → planFlow plan .step n a ≡ touchAges (columnsOf plan) (other .column) (touchAges (columnsOf plan) (touch .column) a)
   -- rule 12.2: where a node's ages stand
   pub age-place : (count n column : ℕ) (buffer : List ℕ) → column < count → getD (rowAt count buffer n) column 0 ≡ getD buffer (n * count + column) 0

@@ -36,16 +36,17 @@ loopChart =
     ∷ 0x40 ∷ 0x00 ∷ 0x00 ∷ 0x00 ∷ 0x00 ∷ 0x00 ∷ 0x00 ∷ 0x00
     ∷ []
 
--- Its report, a line here for each of its lines: three nodes, one block, two passes; the first node none, the next unsure, the last a hit.
+-- Its report, a line here for each of its lines: three nodes, one block, two passes; the first node none none, the next unsure none, the last
+-- hit none.
 abbrev pub loopReport : List ℕ
 loopReport =
     110 ∷ 111 ∷ 100 ∷ 101 ∷ 115 ∷ 32 ∷ 51 ∷ 32 ∷ 98 ∷ 108 ∷ 111 ∷ 99 ∷ 107 ∷ 115 ∷ 32 ∷ 49 ∷ 32 ∷ 112 ∷ 97 ∷ 115 ∷ 115 ∷ 101 ∷ 115 ∷ 32 ∷ 50 ∷ 10
-    ∷ 48 ∷ 32 ∷ 110 ∷ 111 ∷ 110 ∷ 101 ∷ 10
-    ∷ 49 ∷ 32 ∷ 117 ∷ 110 ∷ 115 ∷ 117 ∷ 114 ∷ 101 ∷ 10
-    ∷ 50 ∷ 32 ∷ 104 ∷ 105 ∷ 116 ∷ 10
+    ∷ 48 ∷ 32 ∷ 110 ∷ 111 ∷ 110 ∷ 101 ∷ 32 ∷ 110 ∷ 111 ∷ 110 ∷ 101 ∷ 10
+    ∷ 49 ∷ 32 ∷ 117 ∷ 110 ∷ 115 ∷ 117 ∷ 114 ∷ 101 ∷ 32 ∷ 110 ∷ 111 ∷ 110 ∷ 101 ∷ 10
+    ∷ 50 ∷ 32 ∷ 104 ∷ 105 ∷ 116 ∷ 32 ∷ 110 ∷ 111 ∷ 110 ∷ 101 ∷ 10
     ∷ []
 
--- Nodes of one kind (0x00 for bare steps, 0x40 for reads, 0x80 for writes) that lead each to the next and touch four times these addresses;
+-- Nodes of one kind (0x00 for bare steps, 0x40 for reads, 0x80 for writes) that lead each to the next and refer to one byte each, at four times a number of the list;
 -- `next` is the number of the second of them.
 abbrev pub chain : ℕ → ℕ → List ℕ → List ℕ
 chain kind next [] = []

@@ -17,7 +17,7 @@ use Rattle.classes.specs.Class.{classBy}
 use Rattle.report.specs.Report.{report, classWord}
 use Rattle.report.specs.Text.{decimal}
 use Rattle.demands.specs.Charts.{loopChart, straightChart, oneSetTwoWays, twoSetsOneWay, twoSetsTwoWays, fourSetsOneWay}
-use Rattle.demands.specs.Soundings.{classesFor}
+use Rattle.demands.specs.Soundings.{classesFor, alone}
 use Rattle.demands.specs.Tabled.{endless, stopped}
 
 abbrev pub shape : ℕ → ℕ → ℕ → Geometry
@@ -30,17 +30,17 @@ corners =
     ∷ ((setOf (shape 4 0 1) 0x1FF ∷ setOf (shape 4 3 1) 0x1FF ∷ setOf (shape 4 8 1) 0x1FF ∷ []) reads (0 ∷ 7 ∷ 255 ∷ []))
     -- four ways: a hit by its must age, whatever the may age; a miss by its may age; else unsure
     ∷ ((classBy 4 3 0 ∷ classBy 4 3 4 ∷ classBy 4 4 4 ∷ classBy 4 4 3 ∷ []) reads (1 ∷ 1 ∷ 2 ∷ 3 ∷ []))
-    -- a bare step, an unsure reference and a hit; nodes that are not reached
-    ∷ (classesFor loopChart reads (4 ∷ 3 ∷ 1 ∷ []))
-    ∷ (classesFor endless reads (4 ∷ 3 ∷ 0 ∷ []))
-    ∷ (classesFor stopped reads (4 ∷ 0 ∷ 0 ∷ []))
+    -- a bare step, an unsure touch and a hit; nodes that are not reached
+    ∷ (classesFor loopChart reads alone (4 ∷ 3 ∷ 1 ∷ []))
+    ∷ (classesFor endless reads alone (4 ∷ 3 ∷ 0 ∷ []))
+    ∷ (classesFor stopped reads alone (4 ∷ 0 ∷ 0 ∷ []))
     -- 0x00, 0x40, 0x00: S 1 and A 2, and the two fields swapped
-    ∷ (classesFor (straightChart twoSetsTwoWays 0x10) reads (3 ∷ 3 ∷ 1 ∷ []))
-    ∷ (classesFor (straightChart fourSetsOneWay 0x10) reads (3 ∷ 2 ∷ 2 ∷ []))
+    ∷ (classesFor (straightChart twoSetsTwoWays 0x10) reads alone (3 ∷ 3 ∷ 1 ∷ []))
+    ∷ (classesFor (straightChart fourSetsOneWay 0x10) reads alone (3 ∷ 2 ∷ 2 ∷ []))
     -- two blocks of two sets: neither ages the other
-    ∷ (classesFor (straightChart twoSetsOneWay 0x04) reads (3 ∷ 3 ∷ 1 ∷ []))
+    ∷ (classesFor (straightChart twoSetsOneWay 0x04) reads alone (3 ∷ 3 ∷ 1 ∷ []))
     -- the loop chart entered at node 2
-    ∷ (classesFor (set loopChart 6 0x02) reads (0 ∷ 0 ∷ 2 ∷ []))
+    ∷ (classesFor (set loopChart 6 0x02) reads alone (0 ∷ 0 ∷ 2 ∷ []))
     -- its node 1 reads; with kind 2 it writes
     ∷ (touchesOut (touches (chartIn loopChart) 1) reads (1 ∷ 0 ∷ []))
     ∷ (touchesOut (touches (chartIn (set loopChart 16 0x80)) 1) reads (2 ∷ 0 ∷ []))

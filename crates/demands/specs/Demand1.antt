@@ -114,7 +114,7 @@ pub record TableRoom (chart : Chart) (table : Lent) : Type 0 where
 pub record HasRoom (chart : Chart) (lent : Buffers) : Type 0 where
   pub blocks : blockCount chart ≤ length (lent .blocks)
   pub table : TableRoom chart (tableIn lent)
-  pub classes : chart .header .nodes ≤ length (lent .classes)
+  pub classes : 2 * chart .header .nodes ≤ length (lent .classes)
 
 -- Rules 11.11, 11.12 and 12.3, of the analysis of an accepted chart: 11 if a buffer is short, which is where one has no room; else 12 if every pass
 -- that is allowed changes something; else it settles.

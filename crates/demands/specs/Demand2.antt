@@ -4,21 +4,22 @@
 -- (The ages are those of that analysis: `published`, of the definitions in cache/specs/Ages.antt, here over columns whose keys stand for their
 -- blocks' sets, as `keys-sets` and `sets-keys` say, in the shape that the bytes say, `shape-said`. That the analysis is refused only as rule 12.3
 -- lists is `Demand1.readings` and `Demand1.analysis`.)
--- It speaks of rules 1.2, 3.2, 4.6, 4.7, 6.2 to 6.6, 7.3, 7.7 to 7.9, 9.5, 9.6, 12.2, 12.4, 12.5 and 13.1 to 13.3. Proved as
+-- It speaks of rules 1.2, 3.2, 3.3, 4.6, 4.7, 6.2 to 6.6, 7.3, 7.7 to 7.9, 8.1, 9.5, 9.6, 12.2, 12.4, 12.5 and 13.1 to 13.3. Proved as
 -- `demand2` in proofs/Demand2.antt.
 use Prim.Native.Nat.{ℕ, suc, _+_, _*_, _%_, _^_, _≤_, _<_}
 use mathlib.Core.Path.{_≡_}
 use mathlib.Core.Bool.{true, false}
 use mathlib.Core.List.{List}
 use Rattle.chart.specs.Geometry.{mostNodes, mostBlocks, allPasses}
-use Rattle.chart.specs.Chart.{Chart, accepted, readChart, arrows, blockCount}
+use Rattle.chart.specs.Chart.{Chart, accepted, readChart, touches, arrows, blockCount}
 use Rattle.flow.specs.Flow.{cellAt}
 use Rattle.flow.specs.Passing.{Marked, Tightest}
 use Rattle.flow.specs.Pass.{pass, afterPasses}
-use Rattle.flow.specs.Walk.{Reached}
+use Rattle.flow.specs.Walk.{inTurn, Reached}
 use Rattle.chart.specs.Bytes.{AreBytes, headerBytes}
 use Rattle.ages.specs.Plan.{columnsOf}
-use Rattle.ages.specs.Charted.{blockAt, setAt, keyAt, planOf, agesFlow, mostPasses}
+use Rattle.ages.specs.Charted.{blockAt, setAt, keyAt, planOf, agesFlow, touchedBy, mostPasses}
+use Rattle.cache.specs.Ages.{Ages}
 use Rattle.cache.specs.Plain.{Cache, Formed, emptyCache}
 use Rattle.cache.specs.Published.{AsPublished}
 use Rattle.machine.specs.Machine.{waysOf, keyOf, plainMachine}
@@ -73,8 +74,10 @@ pub record ShapeSaid (bytes : List ℕ) (chart : Chart) : Type 0 where
   pub most-passes : mostPasses chart ≡ chart .header .nodes * (1 + 2 * blockCount chart * headerBytes bytes .ways) + 1
 
 pub record Demand2 : Type 0 where
-  -- rules 6.3, 6.4 and 6.6: the ages are those of the published analysis
+  -- rules 6.2 to 6.4, 6.6 and 8.1: the ages are those of the published analysis
   pub published : AsPublished
+  -- rules 3.3 and 6.5: touch by touch, the state after a node is that after all its touches
+  pub touch-by-touch : (chart : Chart) (n : ℕ) → n < chart .header .nodes → (a : Ages) → agesFlow chart .step n a ≡ inTurn (touchedBy chart) (touches chart n) a
   pub shape-said : (bytes : List ℕ) (chart : Chart) → AreBytes bytes → readChart bytes ≡ accepted chart → ShapeSaid bytes chart
   -- two columns have one key exactly if their blocks are of one set (rule 3.2)
   pub keys-sets : (chart : Chart) (i j : ℕ) → keyAt chart i ≡ keyAt chart j → setAt chart i ≡ setAt chart j

@@ -3,10 +3,9 @@
 -- lie between floors and ceilings and a miss costs at least a hit, the cost that machine counts lies between the two totals."
 -- The plain cache is that of rules 4.1 to 4.7, walk, visits and machine those of rules 5.1 to 5.3, what ages say is rule 6.1, what is called goes by
 -- rules 8.1 and 8.2, the totals by rules 10.1 to 10.3. Proved as `demand3` in proofs/Demand3.antt.
-use Prim.Native.Nat.{ℕ, _≤_, _<_}
+use Prim.Native.Nat.{ℕ, _+_, _*_, _≤_, _<_}
 use mathlib.Core.Path.{_≡_}
-use mathlib.Core.Bool.{true, false}
-use mathlib.Core.List.{List, [], _∷_}
+use mathlib.Core.List.{List, _∷_}
 use lib.ListN.{getD}
 use Rattle.chart.specs.Record.{Touch}
 use Rattle.chart.specs.Chart.{Chart, accepted, readChart, arrows, touches}
@@ -15,7 +14,7 @@ use Rattle.flow.specs.Flow.{cellAt}
 use Rattle.flow.specs.Passing.{Marked}
 use Rattle.flow.specs.Walk.{Walk, visitsOf, AtTouches, AtNodes}
 use Rattle.ages.specs.Charted.{columnTouch, planOf, touchedBy}
-use Rattle.classes.specs.Class.{unreached, hit, miss, classOf, nodeClass, CalledRight, AllTold}
+use Rattle.classes.specs.Class.{unreached, classOf, nodeClass, CalledRight, AllTold}
 use Rattle.machine.specs.Machine.{plainMachine, Contents, AgesTrue, costOf}
 use Rattle.costs.specs.Costs.{Figures, classesAt}
 use Rattle.tables.specs.Lent.{Lent, agesAt, tableOf}
@@ -44,7 +43,7 @@ pub record VisitsKnown (chart : Chart) (figures : Figures) (ts : List ℕ) : Typ
   pub floors : (n : ℕ) → n < chart .header .nodes → getD (figures .floors) n 0 ≡ visitsOf n (chart .header .entry ∷ ts)
   pub ceilings : (n : ℕ) → n < chart .header .nodes → getD (figures .ceilings) n 0 ≡ visitsOf n (chart .header .entry ∷ ts)
 
--- By a table, each reference of a node is a hit or a miss.
+-- By a table, each touch of a node is a hit or a miss.
 abbrev pub Sure : (chart : Chart) → Lent → ℕ → Contents chart → Type 0
 Sure chart table n contents = AllTold (classesAt (planOf chart) n (agesAt (planOf chart) table n))
 
@@ -60,23 +59,26 @@ pub record SaysTrue (chart : Chart) (table : Lent) (n : ℕ) (contents : Content
   pub marked : Marked (cellAt (tableOf (planOf chart) table) n)
   -- rules 4.1 and 6.1: the contents still are of the machine's form, and each block is within its two ages (`Bounds` of the crate `cache`)
   pub ages-true : AgesTrue chart (agesAt (planOf chart) table n) contents
-  -- a node that makes one reference: called a hit it hits, called a miss it misses
-  pub node-hit : (touch : Touch)
-      → touches chart n ≡ touch ∷ []
-      → nodeClass (planOf chart) n (cellAt (tableOf (planOf chart) table) n) ≡ hit
-      → plainMachine chart .finds touch contents ≡ true
-  pub node-miss : (touch : Touch)
-      → touches chart n ≡ touch ∷ []
-      → nodeClass (planOf chart) n (cellAt (tableOf (planOf chart) table) n) ≡ miss
-      → plainMachine chart .finds touch contents ≡ false
+  -- its first touch, and its second when the machine has made the first: called a hit it hits, called a miss it misses
+  pub first-right : (touch : Touch) (rest : List Touch)
+      → touches chart n ≡ touch ∷ rest
+      → CalledRight (nodeClass (planOf chart) n 0 (cellAt (tableOf (planOf chart) table) n)) (plainMachine chart .finds touch contents)
+  pub second-right : (touch other : Touch) (rest : List Touch)
+      → touches chart n ≡ touch ∷ other ∷ rest
+      → CalledRight (nodeClass (planOf chart) n 1 (cellAt (tableOf (planOf chart) table) n)) (plainMachine chart .finds other (plainMachine chart .act touch contents))
   -- and each touch of a node, in turn, however many there are
   pub called-right : AtTouches (touchedBy chart) (plainMachine chart .act) (TouchRight chart) (touches chart n) (agesAt (planOf chart) table n) contents
 
--- The class that a buffer has for a node is right where the machine arrives with these contents.
+-- The classes that a buffer has for a node (rule 12.2) are right where the machine arrives with these contents.
 pub record ClassTrue (chart : Chart) (classes : List ℕ) (n : ℕ) (contents : Contents chart) : Type 0 where
-  pub reached : getD classes n 0 ≡ unreached → ⊥
-  pub hit-hits : (touch : Touch) → touches chart n ≡ touch ∷ [] → getD classes n 0 ≡ hit → plainMachine chart .finds touch contents ≡ true
-  pub miss-misses : (touch : Touch) → touches chart n ≡ touch ∷ [] → getD classes n 0 ≡ miss → plainMachine chart .finds touch contents ≡ false
+  pub first-reached : getD classes (2 * n) 0 ≡ unreached → ⊥
+  pub second-reached : getD classes (2 * n + 1) 0 ≡ unreached → ⊥
+  pub first-right : (touch : Touch) (rest : List Touch)
+      → touches chart n ≡ touch ∷ rest
+      → CalledRight (getD classes (2 * n) 0) (plainMachine chart .finds touch contents)
+  pub second-right : (touch other : Touch) (rest : List Touch)
+      → touches chart n ≡ touch ∷ other ∷ rest
+      → CalledRight (getD classes (2 * n + 1) 0) (plainMachine chart .finds other (plainMachine chart .act touch contents))
 
 -- It holds at each node of the walk, with the contents that the machine arrives with there.
 abbrev pub AtEachNode : (chart : Chart) → (ℕ → Contents chart → Type 0) → List ℕ → Contents chart → Type 0
@@ -99,7 +101,7 @@ pub record CostExactly (chart : Chart) (figures : Figures) (ts : List ℕ) (cont
 -- `analysis::analyse` answers and leaves `analysed`.
 
 pub record Demand3 : Type 0 where
-  -- whatever table the checker passes, at each step of the walk
+  -- whatever table the checker passes, at each node of the walk, touch by touch
   pub says-true : (bytes : List ℕ) (chart : Chart) (table : Lent) (contents : Contents chart) (ts : List ℕ)
       → OnWalk bytes chart contents ts
       → CheckerYes bytes table

@@ -3,17 +3,18 @@
 -- the rules are for.
 --
 -- What the words mean. A *chart* is a program drawn as nodes and arrows, with an *entry* where it starts; a node may make one *reference*
--- to memory. Memory is cut into *blocks*, and the cache holds a few of them, in sets. Where the cache has the block, a reference *hits*; else it
--- *misses* and costs more. A *walk* begins at the entry, goes along arrows and may stop anywhere; every run of the program is one. The
--- *plain machine* is the cache of rules 4.1 to 4.7, a list for each set, which anybody can follow with a pencil; a block's *age* is its
--- place in its list, and one that is not there counts as the oldest.
+-- to memory, of one, two or four bytes. Memory is cut into *blocks*, and the cache holds a few of them, in sets. A reference *touches* the block of
+-- its first byte, and then that of its last if that is another. Where the cache has the block, a touch *hits*; else it *misses* and costs more.
+-- A *walk* begins at the entry, goes along arrows and may stop anywhere; every run of the program is one. The *plain machine* is the cache of
+-- rules 4.1 to 4.7, a list for each set, which anybody can follow with a pencil; a block's *age* is its place in its list, and one that is not
+-- there counts as the oldest.
 --
 -- A *table* marks the nodes that a walk can come to, and perhaps more; for each of them and each block it has two ages: when a walk comes
--- there, the block is no older than the one and no younger than the other. From them a reference is called a hit, a miss, or unsure. The
--- *analysis* makes such a table; the *checker* tries one that anybody made. For each node the caller says how often a walk visits it, no
--- less than a *floor* and no more than a *ceiling*; what a walk then costs lies between the two *totals*. A caller lends *buffers*, as long
--- as it likes, for a function to read or to fill. Where a function cannot answer it gives a *refusal*, a number by rules 11.0 to 11.17,
--- with the node at fault.
+-- there, the block is no older than the one and no younger than the other. From them each touch of a node is called a hit, a miss, or
+-- unsure, the second by what the first leaves of them. The *analysis* makes such a table; the *checker* tries one that anybody made. For each node
+-- the caller says how often a walk visits it, no less than a *floor* and no more than a *ceiling*; what a walk then costs lies between the two
+-- *totals*. A caller lends *buffers*, as long as it likes, for a function to read or to fill. Where a function cannot answer it gives a *refusal*,
+-- a number by rules 11.0 to 11.17, with the node at fault.
 --
 -- 1. Ask it anything. Whatever bytes come, and however short a lent buffer is, the reader of charts, the analysis, the checker and the totals
 --    give an answer or a refusal. It is written down when each refusal is given, what it returns and what it leaves in the buffers. A caller
@@ -24,7 +25,7 @@
 --    everything unsure would break this demand.                                          `demand2` in proofs/Demand2.antt
 --
 -- 3. What it says is so. Take any table that the checker passes, whoever made it; any walk; and whatever the cache held before, as far as
---    the chart allows it. At every step, where a hit was called the plain machine hits, and where a miss was called it misses. And if a
+--    the chart allows it. At every touch, where a hit was called the plain machine hits, and where a miss was called it misses. And if a
 --    miss costs no less than a hit, and each node has a floor and a ceiling that the walk keeps to, then the totals are given, and what
 --    the plain machine pays on that walk is no less than the low one and no more than the high one.
 --                                                                                        `demand3` in proofs/Demand3.antt

@@ -16,7 +16,7 @@ use Rattle.analysis.specs.Analysis.{Buffers, analysed, analyseSays}
 use Rattle.report.specs.Text.{decimal}
 use Rattle.machine.specs.Machine.{costOf}
 use Rattle.demands.specs.Charts.{loopChart, chain}
-use Rattle.demands.specs.Soundings.{loop, tenTurns}
+use Rattle.demands.specs.Soundings.{alone, loop, tenTurns}
 use Rattle.demands.specs.Refused.{sevens}
 use Rattle.demands.specs.Tabled.{checking, three, totalling, figuresWith, loopTable, stopped}
 use Rattle.demands.specs.Shared.{noBlockZero, noReference, fromTwo, classesLeft}
@@ -25,11 +25,11 @@ use Rattle.demands.specs.Shared.{noBlockZero, noReference, fromTwo, clas
 
 -- The loop chart settled in buffers that are one longer than used.
 abbrev pub withTails : Buffers
-withTails = analysed loopChart allPasses (sevens 2 4 4 4 4) .buffers
+withTails = analysed loopChart allPasses (sevens 2 4 4 4 7) .buffers
 
 -- Refused for a short block list (11), and for having no bytes (1).
 abbrev pub untouched : Buffers
-untouched = analysed loopChart allPasses (sevens 0 4 4 4 4) .buffers
+untouched = analysed loopChart allPasses (sevens 0 4 4 4 7) .buffers
 
 abbrev pub unread : Buffers
 unread = analysed [] allPasses (sevens 1 1 1 1 1) .buffers
@@ -41,16 +41,16 @@ leftBehind =
     ∷ (withTails .must reads (2 ∷ 2 ∷ 0 ∷ 7 ∷ []))
     ∷ (withTails .may reads (2 ∷ 0 ∷ 0 ∷ 7 ∷ []))
     ∷ (withTails .marks reads (1 ∷ 1 ∷ 1 ∷ 7 ∷ []))
-    ∷ (withTails .classes reads (4 ∷ 3 ∷ 1 ∷ 7 ∷ []))
+    ∷ (withTails .classes reads (4 ∷ 4 ∷ 3 ∷ 4 ∷ 1 ∷ 4 ∷ 7 ∷ []))
     -- nothing has changed after 11 and 1
-    ∷ ((untouched .blocks ++ untouched .must ++ untouched .may ++ untouched .marks ++ untouched .classes) reads replicate 16 7)
+    ∷ ((untouched .blocks ++ untouched .must ++ untouched .may ++ untouched .marks ++ untouched .classes) reads replicate 19 7)
     ∷ ((unread .blocks ++ unread .must ++ unread .may ++ unread .marks ++ unread .classes) reads replicate 5 7)
     -- the block list after 12, of a chart without block 0
-    ∷ (analysed noBlockZero 1 (sevens 3 6 6 3 3) .buffers .blocks reads (5 ∷ 9 ∷ 7 ∷ []))
+    ∷ (analysed noBlockZero 1 (sevens 3 6 6 3 6) .buffers .blocks reads (5 ∷ 9 ∷ 7 ∷ []))
     -- a chart without blocks needs no place for them: settled, and checked
-    ∷ ((analyseSays noReference 2 (sevens 0 0 0 3 3) .number ∷ analyseSays noReference 2 (sevens 0 0 0 3 3) .passes ∷ []) reads (0 ∷ 2 ∷ []))
+    ∷ ((analyseSays noReference 2 (sevens 0 0 0 3 6) .number ∷ analyseSays noReference 2 (sevens 0 0 0 3 6) .passes ∷ []) reads (0 ∷ 2 ∷ []))
     ∷ (checking noReference (three [] [] (1 ∷ 1 ∷ 1 ∷ [])) reads (0 ∷ 1 ∷ []))
-    ∷ (analysed noReference allPasses (sevens 2 0 0 3 3) .buffers .blocks reads (7 ∷ 7 ∷ []))
+    ∷ (analysed noReference allPasses (sevens 2 0 0 3 6) .buffers .blocks reads (7 ∷ 7 ∷ []))
     ∷ []
 
 -- ---- ages, classes, passes, costs and digits
@@ -67,7 +67,7 @@ marksAfter passes = lentOf (planOf (chartIn fromTwo)) (afterPasses (agesFlow (ch
 
 abbrev pub edges : List Sounding
 edges =
-    (classesLeft 5 3 rewritten reads (2 ∷ 2 ∷ 1 ∷ 2 ∷ 2 ∷ []))
+    (classesLeft 5 3 rewritten reads alone (2 ∷ 2 ∷ 1 ∷ 2 ∷ 2 ∷ []))
     ∷ ((costOf (chartIn rewritten) 1 10 (1 ∷ 2 ∷ 3 ∷ 4 ∷ []) emptyCache ∷ []) reads (41 ∷ []))
     -- eight ways: must age 7 is a hit, may age 7 no miss
     ∷ ((classBy 8 7 0 ∷ classBy 8 7 8 ∷ classBy 8 8 8 ∷ classBy 8 8 7 ∷ []) reads (1 ∷ 1 ∷ 2 ∷ 3 ∷ []))
@@ -91,19 +91,19 @@ edges =
 abbrev pub elevenSteps : List ℕ
 elevenSteps = (0x01 ∷ 0x40 ∷ 0x20 ∷ 0x00 ∷ 0x00 ∷ 0xB0 ∷ 0x00 ∷ 0x00 ∷ []) ++ chain 0x00 1 (replicate 11 0x00)
 
--- Its report, a line here for each of its lines: nodes 11 blocks 0 passes 2, then 0 none to 10 none.
+-- Its report, a line here for each of its lines: nodes 11 blocks 0 passes 2, then 0 none none to 10 none none.
 abbrev pub elevenReport : List ℕ
 elevenReport =
     110 ∷ 111 ∷ 100 ∷ 101 ∷ 115 ∷ 32 ∷ 49 ∷ 49 ∷ 32 ∷ 98 ∷ 108 ∷ 111 ∷ 99 ∷ 107 ∷ 115 ∷ 32 ∷ 48 ∷ 32 ∷ 112 ∷ 97 ∷ 115 ∷ 115 ∷ 101 ∷ 115 ∷ 32 ∷ 50 ∷ 10
-    ∷ 48 ∷ 32 ∷ 110 ∷ 111 ∷ 110 ∷ 101 ∷ 10
-    ∷ 49 ∷ 32 ∷ 110 ∷ 111 ∷ 110 ∷ 101 ∷ 10
-    ∷ 50 ∷ 32 ∷ 110 ∷ 111 ∷ 110 ∷ 101 ∷ 10
-    ∷ 51 ∷ 32 ∷ 110 ∷ 111 ∷ 110 ∷ 101 ∷ 10
-    ∷ 52 ∷ 32 ∷ 110 ∷ 111 ∷ 110 ∷ 101 ∷ 10
-    ∷ 53 ∷ 32 ∷ 110 ∷ 111 ∷ 110 ∷ 101 ∷ 10
-    ∷ 54 ∷ 32 ∷ 110 ∷ 111 ∷ 110 ∷ 101 ∷ 10
-    ∷ 55 ∷ 32 ∷ 110 ∷ 111 ∷ 110 ∷ 101 ∷ 10
-    ∷ 56 ∷ 32 ∷ 110 ∷ 111 ∷ 110 ∷ 101 ∷ 10
-    ∷ 57 ∷ 32 ∷ 110 ∷ 111 ∷ 110 ∷ 101 ∷ 10
-    ∷ 49 ∷ 48 ∷ 32 ∷ 110 ∷ 111 ∷ 110 ∷ 101 ∷ 10
+    ∷ 48 ∷ 32 ∷ 110 ∷ 111 ∷ 110 ∷ 101 ∷ 32 ∷ 110 ∷ 111 ∷ 110 ∷ 101 ∷ 10
+    ∷ 49 ∷ 32 ∷ 110 ∷ 111 ∷ 110 ∷ 101 ∷ 32 ∷ 110 ∷ 111 ∷ 110 ∷ 101 ∷ 10
+    ∷ 50 ∷ 32 ∷ 110 ∷ 111 ∷ 110 ∷ 101 ∷ 32 ∷ 110 ∷ 111 ∷ 110 ∷ 101 ∷ 10
+    ∷ 51 ∷ 32 ∷ 110 ∷ 111 ∷ 110 ∷ 101 ∷ 32 ∷ 110 ∷ 111 ∷ 110 ∷ 101 ∷ 10
+    ∷ 52 ∷ 32 ∷ 110 ∷ 111 ∷ 110 ∷ 101 ∷ 32 ∷ 110 ∷ 111 ∷ 110 ∷ 101 ∷ 10
+    ∷ 53 ∷ 32 ∷ 110 ∷ 111 ∷ 110 ∷ 101 ∷ 32 ∷ 110 ∷ 111 ∷ 110 ∷ 101 ∷ 10
+    ∷ 54 ∷ 32 ∷ 110 ∷ 111 ∷ 110 ∷ 101 ∷ 32 ∷ 110 ∷ 111 ∷ 110 ∷ 101 ∷ 10
+    ∷ 55 ∷ 32 ∷ 110 ∷ 111 ∷ 110 ∷ 101 ∷ 32 ∷ 110 ∷ 111 ∷ 110 ∷ 101 ∷ 10
+    ∷ 56 ∷ 32 ∷ 110 ∷ 111 ∷ 110 ∷ 101 ∷ 32 ∷ 110 ∷ 111 ∷ 110 ∷ 101 ∷ 10
+    ∷ 57 ∷ 32 ∷ 110 ∷ 111 ∷ 110 ∷ 101 ∷ 32 ∷ 110 ∷ 111 ∷ 110 ∷ 101 ∷ 10
+    ∷ 49 ∷ 48 ∷ 32 ∷ 110 ∷ 111 ∷ 110 ∷ 101 ∷ 32 ∷ 110 ∷ 111 ∷ 110 ∷ 101 ∷ 10
     ∷ []

@@ -1,6 +1,7 @@
 -- The examples of docs/RULES.md, section by section, as soundings, so that the page shows nothing that the definitions do not give. Those that
--- another list has too (sections 5, 6, 8 and 10 in `starred`, 14 as `sample-report`; that section 7's table is the tightest, in `unchecked`) are not repeated. Nothing here is a rule of the tool: it is
--- what rules come to.
+-- another list has too (sections 5, 6, 8 and 10 in `starred`, references of two and four bytes in `Sizes` of the crate `chart` and in `Straddling`, 14 as
+-- `sample-report`; that section 7's table is the tightest, in `unchecked`) are not repeated. Nothing here is a rule of the tool: it is what rules come
+-- to.
 use Prim.Native.Nat.{ℕ, _*_, _/_, _%_}
 use mathlib.Core.Bool.{Bool, cond}
 use mathlib.Core.List.{List, [], _∷_, _++_}
@@ -34,13 +35,13 @@ oneNode =
     ∷ 0x40 ∷ 0x00 ∷ 0x00 ∷ 0x00 ∷ 0x00 ∷ 0x00 ∷ 0x00 ∷ 0x00
     ∷ []
 
--- The loop with one pass allowed, in four places of each kind that hold 7.
+-- The loop with one pass allowed, in four places of each kind, and seven for classes, that hold 7.
 abbrev pub onePass : Buffers
-onePass = analysed loopChart 1 (sevens 4 4 4 4 4) .buffers
+onePass = analysed loopChart 1 (sevens 4 4 4 4 7) .buffers
 
 -- The loop, settled in the same.
 abbrev pub settledLoop : Buffers
-settledLoop = analysed loopChart allPasses (sevens 4 4 4 4 4) .buffers
+settledLoop = analysed loopChart allPasses (sevens 4 4 4 4 7) .buffers
 
 -- 9,000 bytes: a header of the most nodes, and zeros.
 abbrev pub tooLong : List ℕ
@@ -52,8 +53,8 @@ examples =
     -- section 1: the loop's edition, header and length
     ((fieldsIn loopChart .edition ∷ headerNumbers (headerIn loopChart)) reads (1 ∷ 4 ∷ 0 ∷ 2 ∷ 1 ∷ 3 ∷ 0 ∷ []))
     ∷ ((length loopChart ∷ []) reads (32 ∷ []))
-    -- section 2: its node 1, with the spare bits; the same with both arrows to node 2
-    ∷ ((recordsIn loopChart 1 .spare ∷ nodeOut (nodeAt loopChart 1)) reads (0 ∷ 1 ∷ 0 ∷ 2 ∷ 1 ∷ 2 ∷ []))
+    -- section 2: its node 1, with the size code; the same with both arrows to node 2
+    ∷ ((recordsIn loopChart 1 .size ∷ nodeOut (nodeAt loopChart 1)) reads (0 ∷ 1 ∷ 0 ∷ 0 ∷ 2 ∷ 1 ∷ 2 ∷ []))
     ∷ (readOut (set loopChart 21 0x02) reads (9 ∷ 1 ∷ 0 ∷ []))
     -- section 3: two addresses with their blocks and sets, and the loop's blocks
     ∷ ((blockOf (shape 4 1 1) 0x23 ∷ setOf (shape 4 1 1) 2 ∷ blockOf (shape 4 1 1) 0x30 ∷ setOf (shape 4 1 1) 3 ∷ []) reads (2 ∷ 0 ∷ 3 ∷ 1 ∷ []))
@@ -69,19 +70,19 @@ examples =
     ∷ (checking loopChart (three (2 ∷ 2 ∷ 2 ∷ []) (2 ∷ 0 ∷ 0 ∷ []) (1 ∷ 1 ∷ 1 ∷ [])) reads (0 ∷ 1 ∷ []))
     ∷ (checking loopChart younger reads (0 ∷ 0 ∷ []))
     -- section 9: passes of one node, and of the loop, whose first pass marks all nodes; no pass allowed
-    ∷ ((analyseSays oneNode allPasses (sevens 1 1 1 1 1) .passes ∷ analyseSays loopChart allPasses (sevens 4 4 4 4 4) .passes ∷ []) reads (1 ∷ 2 ∷ []))
+    ∷ ((analyseSays oneNode allPasses (sevens 1 1 1 1 2) .passes ∷ analyseSays loopChart allPasses (sevens 4 4 4 4 7) .passes ∷ []) reads (1 ∷ 2 ∷ []))
     ∷ ((lentOf (planOf loop) (afterPasses (agesFlow loop) 0) .marks ++ lentOf (planOf loop) (afterPasses (agesFlow loop) 1) .marks) reads (1 ∷ 0 ∷ 0 ∷ 1 ∷ 1 ∷ 1 ∷ []))
-    ∷ ((analyseSays oneNode 0 (sevens 1 1 1 1 1) .number ∷ analyseSays oneNode 0 (sevens 1 1 1 1 1) .place ∷ []) reads (12 ∷ 0 ∷ []))
+    ∷ ((analyseSays oneNode 0 (sevens 1 1 1 1 2) .number ∷ analyseSays oneNode 0 (sevens 1 1 1 1 2) .place ∷ []) reads (12 ∷ 0 ∷ []))
     -- section 11: kind 3 at node 2; edition 2 beside it
     ∷ (readOut (set loopChart 24 0xC0) reads (9 ∷ 2 ∷ 0 ∷ []))
     ∷ (readOut (set (set loopChart 24 0xC0) 0 0x02) reads (2 ∷ 0 ∷ 0 ∷ []))
     -- section 12: settled, with the answer; refused 12, with the answer
     ∷ ((settledLoop .blocks ++ settledLoop .must ++ settledLoop .may) reads (0 ∷ 7 ∷ 7 ∷ 7 ∷ 2 ∷ 2 ∷ 0 ∷ 7 ∷ 2 ∷ 0 ∷ 0 ∷ 7 ∷ []))
-    ∷ ((settledLoop .marks ++ settledLoop .classes) reads (1 ∷ 1 ∷ 1 ∷ 7 ∷ 4 ∷ 3 ∷ 1 ∷ 7 ∷ []))
-    ∷ ((analyseSays loopChart allPasses (sevens 4 4 4 4 4) .passes ∷ analyseSays loopChart allPasses (sevens 4 4 4 4 4) .blocks ∷ []) reads (2 ∷ 1 ∷ []))
+    ∷ ((settledLoop .marks ++ settledLoop .classes) reads (1 ∷ 1 ∷ 1 ∷ 7 ∷ 4 ∷ 4 ∷ 3 ∷ 4 ∷ 1 ∷ 4 ∷ 7 ∷ []))
+    ∷ ((analyseSays loopChart allPasses (sevens 4 4 4 4 7) .passes ∷ analyseSays loopChart allPasses (sevens 4 4 4 4 7) .blocks ∷ []) reads (2 ∷ 1 ∷ []))
     ∷ ((onePass .blocks ++ onePass .must ++ onePass .may) reads (0 ∷ 7 ∷ 7 ∷ 7 ∷ 0 ∷ 0 ∷ 0 ∷ 7 ∷ 0 ∷ 0 ∷ 0 ∷ 7 ∷ []))
-    ∷ ((onePass .marks ++ onePass .classes) reads (0 ∷ 0 ∷ 0 ∷ 7 ∷ 0 ∷ 0 ∷ 0 ∷ 7 ∷ []))
-    ∷ ((analyseSays loopChart 1 (sevens 4 4 4 4 4) .number ∷ analyseSays loopChart 1 (sevens 4 4 4 4 4) .passes ∷ analyseSays loopChart 1 (sevens 4 4 4 4 4) .blocks ∷ []) reads (12 ∷ 1 ∷ 1 ∷ []))
+    ∷ ((onePass .marks ++ onePass .classes) reads (0 ∷ 0 ∷ 0 ∷ 7 ∷ 0 ∷ 0 ∷ 0 ∷ 0 ∷ 0 ∷ 0 ∷ 7 ∷ []))
+    ∷ ((analyseSays loopChart 1 (sevens 4 4 4 4 7) .number ∷ analyseSays loopChart 1 (sevens 4 4 4 4 7) .passes ∷ analyseSays loopChart 1 (sevens 4 4 4 4 7) .blocks ∷ []) reads (12 ∷ 1 ∷ 1 ∷ []))
     -- section 13: "refused 8 at 0"
     ∷ (report tooLong reads (114 ∷ 101 ∷ 102 ∷ 117 ∷ 115 ∷ 101 ∷ 100 ∷ 32 ∷ 56 ∷ 32 ∷ 97 ∷ 116 ∷ 32 ∷ 48 ∷ 10 ∷ []))
     ∷ []

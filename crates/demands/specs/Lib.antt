@@ -11,6 +11,10 @@ pub mod Mistakes
 pub mod Sounded
 pub mod Shared
 pub mod Edges
+pub mod Straddling
 pub mod Inner
 pub mod Examples
 pub mod Anywhere
+pub mod Leaving
+pub mod Paying
+pub mod Taking

@@ -1,7 +1,7 @@
 -- Refusals 1 to 12 on charts that are written out: the loop chart damaged in one place at a time, lent too little, and allowed too few
 -- passes; beside each kind one case with nothing wrong. Nothing here is a rule of the tool: it is what rules 11.1 to 11.9, 11.11, 11.12 and 12.3 come
 -- to. `Sounded` of the crate `chart` has how many nodes there may be (rule 11.5), two arrows to one node (rule 2.9), and rule 11.10, which takes 65
--- blocks.
+-- blocks; its `Sizes` has the size codes and the last bytes (rules 2.11 and 2.12), and nodes that bring two blocks.
 use Prim.Native.Nat.{ℕ}
 use mathlib.Core.List.{List, [], _∷_, _++_}
 use lib.ListN.{replicate, set, take}
@@ -40,9 +40,9 @@ damaged =
     ∷ (read (set loopChart 11 0x04) reads (9 ∷ 0 ∷ []))
     ∷ (read (set loopChart 23 0x30) reads (9 ∷ 1 ∷ []))
     ∷ (read (set loopChart 29 0x01) reads (9 ∷ 2 ∷ []))
-    -- three arrows at node 1; a spare bit at node 2; an unused second arrow at node 0
+    -- three arrows at node 1; size code 3 at node 2; an unused second arrow at node 0
     ∷ (read (set loopChart 20 0x30) reads (9 ∷ 1 ∷ []))
-    ∷ (read (set loopChart 31 0x01) reads (9 ∷ 2 ∷ []))
+    ∷ (read (set loopChart 31 0x03) reads (9 ∷ 2 ∷ []))
     ∷ (read (set loopChart 15 0x10) reads (9 ∷ 0 ∷ []))
     -- L 9; L 2 and 8, S 8, A 8 are allowed
     ∷ (read (set loopChart 1 0x90) reads (3 ∷ 0 ∷ []))
@@ -73,24 +73,24 @@ sevens blocks must may marks classes =
 
 -- What one pass, which is not enough, leaves in buffers that are one longer than used.
 abbrev pub unsettled : Buffers
-unsettled = analysed loopChart 1 (sevens 2 4 4 4 4) .buffers
+unsettled = analysed loopChart 1 (sevens 2 4 4 4 7) .buffers
 
 -- The number and the place that the analysis says, and what it leaves.
 abbrev pub unanalysed : List Sounding
 unanalysed =
     -- each buffer one short, then none
-    (analysing 2 (sevens 0 3 3 3 3) reads (11 ∷ 0 ∷ []))
-    ∷ (analysing 2 (sevens 1 2 3 3 3) reads (11 ∷ 0 ∷ []))
-    ∷ (analysing 2 (sevens 1 3 2 3 3) reads (11 ∷ 0 ∷ []))
-    ∷ (analysing 2 (sevens 1 3 3 2 3) reads (11 ∷ 0 ∷ []))
-    ∷ (analysing 2 (sevens 1 3 3 3 2) reads (11 ∷ 0 ∷ []))
-    ∷ (analysing 2 (sevens 1 3 3 3 3) reads (0 ∷ 0 ∷ []))
+    (analysing 2 (sevens 0 3 3 3 6) reads (11 ∷ 0 ∷ []))
+    ∷ (analysing 2 (sevens 1 2 3 3 6) reads (11 ∷ 0 ∷ []))
+    ∷ (analysing 2 (sevens 1 3 2 3 6) reads (11 ∷ 0 ∷ []))
+    ∷ (analysing 2 (sevens 1 3 3 2 6) reads (11 ∷ 0 ∷ []))
+    ∷ (analysing 2 (sevens 1 3 3 3 5) reads (11 ∷ 0 ∷ []))
+    ∷ (analysing 2 (sevens 1 3 3 3 6) reads (0 ∷ 0 ∷ []))
     -- 12: one pass allowed; the allowance and B, the block list, zeros, and each tail
-    ∷ (analysing 1 (sevens 1 3 3 3 3) reads (12 ∷ 0 ∷ []))
-    ∷ ((analyseSays loopChart 1 (sevens 1 3 3 3 3) .passes ∷ analyseSays loopChart 1 (sevens 1 3 3 3 3) .blocks ∷ []) reads (1 ∷ 1 ∷ []))
+    ∷ (analysing 1 (sevens 1 3 3 3 6) reads (12 ∷ 0 ∷ []))
+    ∷ ((analyseSays loopChart 1 (sevens 1 3 3 3 6) .passes ∷ analyseSays loopChart 1 (sevens 1 3 3 3 6) .blocks ∷ []) reads (1 ∷ 1 ∷ []))
     ∷ (unsettled .blocks reads (0 ∷ 7 ∷ []))
     ∷ (unsettled .must reads (0 ∷ 0 ∷ 0 ∷ 7 ∷ []))
     ∷ (unsettled .may reads (0 ∷ 0 ∷ 0 ∷ 7 ∷ []))
     ∷ (unsettled .marks reads (0 ∷ 0 ∷ 0 ∷ 7 ∷ []))
-    ∷ (unsettled .classes reads (0 ∷ 0 ∷ 0 ∷ 7 ∷ []))
+    ∷ (unsettled .classes reads (0 ∷ 0 ∷ 0 ∷ 0 ∷ 0 ∷ 0 ∷ 7 ∷ []))
     ∷ []

@@ -1,4 +1,4 @@
--- Soundings of what the analysis and the plain machine share, which demands 2 and 3 therefore cannot catch: that a write touches its block as
+-- Soundings of what the analysis and the plain machine share, which demands 2 and 3 therefore cannot catch: that a write touches what
 -- a read does, which blocks a chart has, a chart that touches nothing, sets where lines are long, many ways; and of pass counts, which show in
 -- what order nodes are taken and that a state is worked out once. Nothing here is a rule of the tool: it is what rules 2.7, 2.8, 3.1, 3.2, 3.4,
 -- 5.3, 9.2 and 9.3 come to.
@@ -13,7 +13,7 @@ use Rattle.analysis.specs.Analysis.{analysed, analyseSays}
 use Rattle.report.specs.Report.{zeroBuffers}
 use Rattle.machine.specs.Machine.{costOf}
 use Rattle.demands.specs.Charts.{oneSetTwoWaysEmpty, oneSetTwoWays, oneSetOneWay, chain, straightChart, straightOf, straightWrites}
-use Rattle.demands.specs.Soundings.{after, classesFor}
+use Rattle.demands.specs.Soundings.{after, classesFor, alone}
 
 -- Reads of blocks 5, 9 and 5: there is no block 0.
 abbrev pub noBlockZero : List ℕ
@@ -71,21 +71,21 @@ straightCost bytes = chainCost bytes (1 ∷ 2 ∷ [])
 abbrev pub sharedSoundings : List Sounding
 sharedSoundings =
     -- writes of 0x00, 0x10, 0x00: unsure, unsure and hit in two ways, unsure, miss and miss in one
-    (classesFor (straightWrites oneSetTwoWays 0x04) reads (3 ∷ 3 ∷ 1 ∷ []))
-    ∷ (classesFor (straightWrites oneSetOneWay 0x04) reads (3 ∷ 2 ∷ 2 ∷ []))
+    (classesFor (straightWrites oneSetTwoWays 0x04) reads alone (3 ∷ 3 ∷ 1 ∷ []))
+    ∷ (classesFor (straightWrites oneSetOneWay 0x04) reads alone (3 ∷ 2 ∷ 2 ∷ []))
     -- a read after a write hits, and a write between two reads ages the block that was read
-    ∷ (classesFor (set (straightChart oneSetTwoWays 0x04) 8 0x80) reads (3 ∷ 3 ∷ 1 ∷ []))
-    ∷ (classesFor (set (straightChart oneSetOneWay 0x04) 16 0x80) reads (3 ∷ 2 ∷ 2 ∷ []))
+    ∷ (classesFor (set (straightChart oneSetTwoWays 0x04) 8 0x80) reads alone (3 ∷ 3 ∷ 1 ∷ []))
+    ∷ (classesFor (set (straightChart oneSetOneWay 0x04) 16 0x80) reads alone (3 ∷ 2 ∷ 2 ∷ []))
     -- the plain machine pays for writes as for reads
     ∷ ((straightCost (straightWrites oneSetTwoWaysEmpty 0x04) ∷ straightCost (straightWrites oneSetTwoWaysEmpty 0x00) ∷ []) reads (21 ∷ 12 ∷ []))
     -- a chart without block 0: blocks, classes, passes and B
     ∷ (after noBlockZero .blocks reads (5 ∷ 9 ∷ []))
-    ∷ (classesFor noBlockZero reads (3 ∷ 3 ∷ 1 ∷ []))
+    ∷ (classesFor noBlockZero reads alone (3 ∷ 3 ∷ 1 ∷ []))
     ∷ (counts noBlockZero reads (2 ∷ 2 ∷ []))
     -- one without any reference: no block is listed, every node is marked, each class is none, and nothing is paid
     ∷ (after noReference .blocks reads (0 ∷ 0 ∷ []))
     ∷ (after noReference .marks reads (1 ∷ 1 ∷ 1 ∷ []))
-    ∷ (classesFor noReference reads (4 ∷ 4 ∷ 4 ∷ []))
+    ∷ (classesFor noReference reads alone (4 ∷ 4 ∷ 4 ∷ []))
     ∷ (counts noReference reads (2 ∷ 0 ∷ []))
     ∷ ((straightCost noReference ∷ []) reads (0 ∷ []))
     ∷ []
@@ -94,10 +94,10 @@ sharedSoundings =
 abbrev pub shapeSoundings : List Sounding
 shapeSoundings =
     -- blocks 0 and 1 are of two sets, whatever the length of a line
-    (classesFor wideLines reads (3 ∷ 3 ∷ 1 ∷ []))
+    (classesFor wideLines reads alone (3 ∷ 3 ∷ 1 ∷ []))
     ∷ ((straightCost wideLines ∷ []) reads (21 ∷ []))
     -- five blocks stay in eight ways
-    ∷ (classesLeft 6 5 eightWays reads (3 ∷ 3 ∷ 3 ∷ 3 ∷ 3 ∷ 1 ∷ []))
+    ∷ (classesLeft 6 5 eightWays reads alone (3 ∷ 3 ∷ 3 ∷ 3 ∷ 3 ∷ 1 ∷ []))
     ∷ ((chainCost eightWays (1 ∷ 2 ∷ 3 ∷ 4 ∷ 5 ∷ []) ∷ []) reads (51 ∷ []))
     -- node 0 is taken before node 2, so that what 2 sends is seen in the pass after
     ∷ (counts fromTwo reads (3 ∷ 0 ∷ []))

@@ -16,14 +16,20 @@ use Rattle.checker.specs.Checker.{checked}
 use Rattle.totals.specs.declared.Totals.the-variants.{Between}
 use Rattle.totals.specs.Totals.{totals}
 use Rattle.chart.specs.Geometry.{longestChart, passesFor, allPasses}
-use Rattle.chart.specs.Sounded.{chartFields, nodeCounts, twinArrows, ChartSounded}
+use Rattle.chart.specs.Sounded.{chartFields, nodeCounts, twinArrows}
+use Rattle.chart.specs.Sizes.{sizedTouches, sizesRefused, crowded}
+use Rattle.chart.specs.Claims.{ChartSounded}
 use Rattle.report.specs.Report.{report}
 use Rattle.report.specs.Ending.{refuses, endingOf}
 use Rattle.chart.specs.Chart.{Chart}
+use Rattle.ages.specs.Plan.{Plan, planFlow}
 use Rattle.classes.specs.Class.{classBy}
 use Rattle.machine.specs.Machine.{plainMachine, Contents, costOf}
 use Rattle.demands.specs.Demand3.{OnWalk, VisitsWithin, AtEachNode}
 use Rattle.demands.specs.Anywhere.{Anywhere}
+use Rattle.demands.specs.Leaving.{Leaving}
+use Rattle.demands.specs.Paying.{Paying}
+use Rattle.demands.specs.Taking.{Taking}
 use Rattle.demands.specs.Charts.{loopChart, loopReport}
 use Rattle.demands.specs.Soundings.{starred, after, loopFigures, loop, tenTurns}
 use Rattle.demands.specs.Refused.{damaged, unanalysed}
@@ -31,6 +37,7 @@ use Rattle.demands.specs.Tabled.{unchecked, looser, untotalled, summed}
 use Rattle.demands.specs.Corners.{corners, unknownStart, strangers}
 use Rattle.demands.specs.Shared.{sharedSoundings, shapeSoundings}
 use Rattle.demands.specs.Edges.{leftBehind, edges, elevenSteps, elevenReport}
+use Rattle.demands.specs.Straddling.{straddle, straddleReport, straddling, straddlingPaid}
 use Rattle.demands.specs.Mistakes.{right, mistaken}
 use Rattle.demands.specs.Examples.{examples}
 
@@ -60,6 +67,9 @@ pub record Sounded : Type 0 where
   pub passes-enough : passesFor 3 1 2 ≡ 16
   -- and what is so at every node, place, length and number, however large
   pub at-any-number : Anywhere
+  pub left-at-any : Leaving
+  pub paid-at-any : Paying
+  pub taken-at-any : (plan : Plan) → Taking (planFlow plan)
   -- how the program ends (rule 13.3): which inputs are refused, and the status of a report and of a refusal, written whole and not
   pub sample-not-refused : refuses loopChart ≡ false
   pub no-bytes-refused : refuses [] ≡ true
@@ -80,6 +90,10 @@ pub record Sounded : Type 0 where
   pub left-behind-hold : Hold leftBehind
   pub edges-hold : Hold edges
   pub eleven-report : report elevenSteps ≡ elevenReport
+  -- references across two lines, what they cost, and the report of such a chart, whole
+  pub straddling-hold : Hold straddling
+  pub straddling-paid : Hold straddlingPaid
+  pub straddle-report : report straddle ≡ straddleReport
   -- a class, by any ages (rule 8.1)
   pub hit-called : (limit must may : ℕ) → must < limit → classBy limit must may ≡ 1
   pub miss-called : (limit must may : ℕ) → limit ≤ must → may ≡ limit → classBy limit must may ≡ 2
@@ -87,7 +101,7 @@ pub record Sounded : Type 0 where
   -- the plain machine pays k times as much where both costs are k times as high
   pub cost-scales : (chart : Chart) (k hitCost missCost : ℕ) (ts : List ℕ) (contents : Contents chart)
       → costOf chart (k * hitCost) (k * missCost) ts contents ≡ k * costOf chart hitCost missCost ts contents
-  -- the reader's: fields, kinds, two arrows to one node, and the limits
+  -- the reader's: fields, kinds, two arrows to one node, sizes, and the limits
   pub chart-sounded : ChartSounded
   -- corners that the starred soundings leave out
   pub corners-hold : Hold corners
@@ -97,4 +111,4 @@ pub record Sounded : Type 0 where
   -- the examples of docs/RULES.md
   pub examples-hold : Hold examples
   -- how many soundings each list has: none is dropped unseen
-  pub how-many : map length (chartFields ∷ nodeCounts ∷ twinArrows ∷ starred ∷ damaged ∷ unanalysed ∷ unchecked ∷ looser ∷ untotalled ∷ summed ∷ corners ∷ sharedSoundings ∷ shapeSoundings ∷ leftBehind ∷ edges ∷ right ∷ mistaken ∷ examples ∷ []) ≡ 9 ∷ 12 ∷ 22 ∷ 13 ∷ 26 ∷ 13 ∷ 13 ∷ 10 ∷ 20 ∷ 7 ∷ 16 ∷ 13 ∷ 6 ∷ 11 ∷ 12 ∷ 6 ∷ 6 ∷ 25 ∷ []
+  pub how-many : map length (chartFields ∷ nodeCounts ∷ twinArrows ∷ sizedTouches ∷ sizesRefused ∷ crowded ∷ starred ∷ damaged ∷ unanalysed ∷ unchecked ∷ looser ∷ untotalled ∷ summed ∷ corners ∷ sharedSoundings ∷ shapeSoundings ∷ leftBehind ∷ edges ∷ straddling ∷ straddlingPaid ∷ right ∷ mistaken ∷ examples ∷ []) ≡ 9 ∷ 12 ∷ 22 ∷ 19 ∷ 11 ∷ 8 ∷ 13 ∷ 26 ∷ 13 ∷ 13 ∷ 10 ∷ 20 ∷ 7 ∷ 16 ∷ 13 ∷ 6 ∷ 11 ∷ 12 ∷ 15 ∷ 11 ∷ 6 ∷ 6 ∷ 25 ∷ []

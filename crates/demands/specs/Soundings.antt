@@ -1,8 +1,10 @@
 -- The starred soundings as one list: what the definitions give, and the numbers that are asked for. Nothing here is a rule of the tool: they are
--- the examples of sections 5, 6, 8 and 10 of docs/RULES.md.
+-- the examples of sections 5, 6, 8 and 10 of docs/RULES.md, but for the last of section 8, which `Straddling` has.
 use Prim.Native.Nat.{ℕ}
+use mathlib.Core.Bool.{cond}
 use mathlib.Core.List.{List, [], _∷_, _++_}
 use lib.ListN.{replicate}
+use lib.Dec.{eqb}
 use Rattle.lists.specs.Soundings.{Sounding, _reads_}
 use Rattle.chart.specs.Geometry.{allPasses}
 use Rattle.chart.specs.Header.{headerIn}
@@ -38,6 +40,11 @@ after bytes = analysed bytes allPasses (zeroBuffers (headerIn bytes .nodes) 2) .
 
 abbrev pub classesFor : List ℕ → List ℕ
 classesFor bytes = after bytes .classes
+
+-- The classes of nodes that make one touch at most: beside each the second, none, or unreached where that is the first.
+abbrev pub alone : List ℕ → List ℕ
+alone [] = []
+alone (class ∷ classes) = class ∷ cond (eqb class 0) 0 4 ∷ alone classes
 
 -- A hit costs 1 and a miss 10; each node is visited once, but the second up to ten times.
 abbrev pub loopFigures : Figures
@@ -78,12 +85,12 @@ starred =
     ∷ (meeting (1 ∷ 3 ∷ []) (2 ∷ 4 ∷ []) .must reads (2 ∷ 4 ∷ []))
     ∷ (meeting (1 ∷ 3 ∷ []) (2 ∷ 4 ∷ []) .may reads (1 ∷ 3 ∷ []))
     -- rule 8.1: reads of 0x00, 0x10 and 0x00 in one set of two ways, unknown and empty, and of one way, unknown
-    ∷ (classesFor (straightChart oneSetTwoWays 0x04) reads (3 ∷ 3 ∷ 1 ∷ []))
-    ∷ (classesFor (straightChart oneSetTwoWaysEmpty 0x04) reads (2 ∷ 2 ∷ 1 ∷ []))
-    ∷ (classesFor (straightChart oneSetOneWay 0x04) reads (3 ∷ 2 ∷ 2 ∷ []))
+    ∷ (classesFor (straightChart oneSetTwoWays 0x04) reads alone (3 ∷ 3 ∷ 1 ∷ []))
+    ∷ (classesFor (straightChart oneSetTwoWaysEmpty 0x04) reads alone (2 ∷ 2 ∷ 1 ∷ []))
+    ∷ (classesFor (straightChart oneSetOneWay 0x04) reads alone (3 ∷ 2 ∷ 2 ∷ []))
     -- of 0x00, 0x20 and 0x00, unknown: two ways in one set, and one way in each of two
-    ∷ (classesFor (straightChart oneSetTwoWays 0x08) reads (3 ∷ 3 ∷ 1 ∷ []))
-    ∷ (classesFor (straightChart twoSetsOneWay 0x08) reads (3 ∷ 2 ∷ 2 ∷ []))
+    ∷ (classesFor (straightChart oneSetTwoWays 0x08) reads alone (3 ∷ 3 ∷ 1 ∷ []))
+    ∷ (classesFor (straightChart twoSetsOneWay 0x08) reads alone (3 ∷ 2 ∷ 2 ∷ []))
     -- rules 10.2 and 10.3: the loop's totals; rule 5.3: what its ten turns cost
     ∷ (loopTotals reads (2 ∷ 101 ∷ []))
     ∷ ((costOf loop 1 10 tenTurns emptyCache ∷ []) reads (20 ∷ []))

@@ -1,38 +1,42 @@
 -- Two lists in which the columns, the head and the nodes of a chart were stored hold the chart's plan.
 use Prim.Native.Nat.{ℕ, _+_, _*_, _≤_, _<_}
-use mathlib.Core.Bool.{not}
-use mathlib.Core.List.{List, map}
+use mathlib.Core.Bool.{Bool, true, false, cond, not}
+use mathlib.Core.List.{List, [], _∷_, map}
+use mathlib.Core.Logic.{inl, inr}
 use mathlib.Core.Path.{_≡_, refl, sym, ap, subst, _∙_}
 use native.Mathlib.Omega.{arith}
+use borrow.Author.Tests.{eq-eqb, ne-eqb, eqb-true, eqb-false}
 use lib.Dec.{eqb}
 use lib.ListN.{length, getD, take, replicate}
 use Rattle.lists.specs.Choice.{first}
-use Rattle.lists.specs.Lists.{listOf, padded}
+use Rattle.lists.specs.Lists.{Among, listOf, padded}
 use Rattle.lists.specs.Loops.{patch}
 use Rattle.lists.proofs.Choice.{first-same}
 use Rattle.lists.proofs.Listed.{listOf-same}
 use Rattle.lists.proofs.Lists.{getD-padded}
 use Rattle.lists.proofs.Loops.{patch-in0}
+use Rattle.blocks.specs.Blocks.{placeIn}
 use Rattle.blocks.proofs.Arrays.{laid-take}
+use Rattle.chart.specs.declared.shape.Geometry.{Geometry}
 use Rattle.chart.specs.declared.headers.Header.{Header}
 use Rattle.chart.specs.Header.{startCode}
 use Rattle.chart.specs.declared.headers.Start.{Start}
 use Rattle.chart.specs.declared.headers.Start.the-variants.{Unknown, Empty}
 use Rattle.chart.specs.declared.records.Record.{Record}
 use Rattle.chart.specs.declared.records.Record.the-variants as what
-use Rattle.chart.specs.Geometry.{mostNodes, mostBlocks, setOf}
-use Rattle.chart.specs.Record.{touchesOf}
+use Rattle.chart.specs.Geometry.{mostNodes, mostBlocks, blockOf, setOf}
+use Rattle.chart.specs.Record.{Touch, bothTouched, touchesOf}
 use Rattle.chart.specs.Chart.{Chart, accepted, refused, readChart, chartIn, blockCount, nodeAt}
 use Rattle.chart.specs.Inner.{AcceptedAs}
-use Rattle.chart.proofs.Accepted.{accepted-chart, accepted-nodes, accepted-few}
+use Rattle.chart.proofs.Accepted.{accepted-chart, accepted-nodes, accepted-few, accepted-column}
 use Rattle.chart.proofs.Answers.{found-blocks}
 use Rattle.refusals.specs.declared.Refusal.{Refusal}
 use Rattle.ages.specs.Plan.{Sound}
-use Rattle.ages.specs.Charted.{setAt, keyAt, columnTouch, nodePlan, isEmpty, planOf}
+use Rattle.ages.specs.Charted.{columnOf, setAt, keyAt, columnTouch, nodePlan, isEmpty, planOf}
 use Rattle.ages.proofs.Charting.{chart-sound}
 use Rattle.plan.specs.Listed.{nodesIn, blocksIn, nodePlace, nodeIn, touchesBy, planNode, planIn, Drawn}
 use Rattle.drawing.specs.Columns.{alike, ColumnsDrawn}
-use Rattle.drawing.specs.Nodes.{headNumbers, plannedBy, nodeBy, NodesDrawn}
+use Rattle.drawing.specs.Nodes.{headNumbers, ColumnsNarrow, plannedBy, nodeBy, AllNarrow, NodesDrawn}
 use Rattle.drawing.specs.Drawing.{Draws}
 
 -- What is stored, place by place, of a header and an array of so many blocks.
@@ -46,6 +50,58 @@ record Stored (bytes array columns plan : List ℕ) (header : Header) (count : �
 empty-number : (start : Start) → not (eqb (startCode start) 0) ≡ isEmpty start
 empty-number Unknown = refl
 empty-number Empty = refl
+
+-- ---- the touches of a record, by columns
+
+module _ (chart : Chart) where
+  -- A block stands in the list, at its place.
+  abbrev Listed : ℕ → Type 0
+  Listed block = (placeIn (chart .blocks) block < blockCount chart) × (getD (chart .blocks) (placeIn (chart .blocks) block) 0 ≡ block)
+
+  both-listed : (write : Bool) (lower upper : ℕ) → ((touch : Touch) → Among touch (bothTouched write lower upper) → Listed (touch .block)) → Listed lower × Listed upper
+  both-listed write lower upper each = (below, go (eqb lower upper) refl)
+    where
+      below : Listed lower
+      below = each (record { block = lower; write = write }) (inl refl)
+
+      go : (t : Bool) → eqb lower upper ≡ t → Listed upper
+      go true e = subst Listed (eqb-true lower upper e) below
+      go false e = each (record { block = upper; write = write }) (rw e (inr (inl refl)))
+
+  -- Two listed blocks have one place exactly if they are one.
+  places-alike : (lower upper : ℕ) → Listed lower → Listed upper → eqb (placeIn (chart .blocks) lower) (placeIn (chart .blocks) upper) ≡ eqb lower upper
+  places-alike lower upper low high = go (eqb lower upper) refl
+    where
+      go : (t : Bool) → eqb lower upper ≡ t → eqb (placeIn (chart .blocks) lower) (placeIn (chart .blocks) upper) ≡ t
+      go true e = eq-eqb _ _ (ap (placeIn (chart .blocks)) (eqb-true lower upper e))
+      go false e =
+          ne-eqb _ _ (λ q. eqb-false lower upper e (sym (low .1) ∙ ap (λ (k : ℕ). getD (chart .blocks) k 0) q ∙ high .1))
+
+  module _ (geometry : Geometry) where
+    abbrev AllListed : Record → Type 0
+    AllListed what = (touch : Touch) → Among touch (touchesOf geometry what) → Listed (touch .block)
+
+    narrow-columns : blockCount chart ≤ mostBlocks → (what : Record) → AllListed what → ColumnsNarrow (plannedBy geometry (chart .blocks) what)
+    unfolding touchesOf
+    narrow-columns few what.Step each = tt
+    narrow-columns few (what.Reference reference) each =
+        let both = both-listed (reference .write) (blockOf geometry (reference .address)) (blockOf geometry (reference .last)) each in
+        (omega (arith, both .0 .0), omega (arith, both .1 .0))
+
+    touches-are : (what : Record) → AllListed what → touchesBy (plannedBy geometry (chart .blocks) what) ≡ map (columnTouch chart) (touchesOf geometry what)
+    unfolding touchesOf
+    touches-are what.Step each = refl
+    touches-are (what.Reference reference) each =
+        let lower = blockOf geometry (reference .address) in
+        let upper = blockOf geometry (reference .last) in
+        let both = both-listed (reference .write) lower upper each in
+        ap (λ (t : Bool). record { column = columnOf chart lower; write = reference .write } ∷ cond t [] (record { column = columnOf chart upper; write = reference .write } ∷ [])) (places-alike lower upper (both .0) (both .1))
+        ∙ go (eqb lower upper)
+      where
+        go : (t : Bool) → record { column = columnOf chart (blockOf geometry (reference .address)); write = reference .write } ∷ cond t [] (record { column = columnOf chart (blockOf geometry (reference .last)); write = reference .write } ∷ [])
+            ≡ map (columnTouch chart) (record { block = blockOf geometry (reference .address); write = reference .write } ∷ cond t [] (record { block = blockOf geometry (reference .last); write = reference .write } ∷ []))
+        go true = refl
+        go false = refl
 
 -- ---- the plan
 
@@ -66,17 +122,12 @@ module _ (bytes : List ℕ) (chart : Chart) (read : readChart bytes ≡ accepted
       (λ e. eqb (setAt chart e) (setAt chart k))
       (λ e l. let here : e < blockCount chart = omega arith in λ i. eqb (set-is e here i) (set-is k h i))
 
-  touches-are : (what : Record) → touchesBy (plannedBy (chart .header .geometry) (chart .blocks) what) ≡ map (columnTouch chart) (touchesOf (chart .header .geometry) what)
-  unfolding touchesOf
-  touches-are what.Step = refl
-  touches-are (what.Reference reference) = refl
-
   step-is : (n : ℕ) → n < chart .header .nodes → planNode (nodeIn plan n) ≡ nodePlan chart n
   step-is n h =
       let blocks : take (blockCount chart) array ≡ chart .blocks = laid-take mostBlocks (blockCount chart) array (chart .blocks) refl laid in
       let same : nodeAt bytes n ≡ chart .node n = ap (λ (c : Chart). c .node n) (sym (accepted-chart bytes chart read)) in
       ap planNode (stored .node n h ∙ (λ i. nodeBy (chart .header .geometry) (blocks i) (same i)))
-      ∙ (λ i. record { touches = touches-are (chart .node n .what) i; arrows = nodePlan chart n .arrows })
+      ∙ (λ i. record { touches = touches-are chart (chart .header .geometry) (chart .node n .what) (λ touch i. accepted-column bytes chart read n h touch i) i; arrows = nodePlan chart n .arrows })
 
   columns-are : (f g : ℕ → ℕ) → ((k : ℕ) → k < blockCount chart → f k ≡ g k) → listOf (blocksIn plan) f ≡ listOf (blockCount chart) g
   columns-are f g same = ap (λ (n : ℕ). listOf n f) blocks-are ∙ listOf-same (blockCount chart) f g same
@@ -147,6 +198,16 @@ module _ (bytes : List ℕ) (header : Header) (count : ℕ) (array : List ℕ) (
         plan-is = λ chart read. plan-held bytes (chartIn bytes) (found .read) array columns plan (found .array-is) chart-stored ∙ ap planOf (sym (accepted-chart bytes chart read));
         drawn = λ chart read. plan-drawn bytes (chartIn bytes) (found .read) array columns plan (found .array-is) chart-stored columns-long plan-long;
       }
+
+-- What a reader finds has all blocks that are touched.
+pub found-narrow : {bytes : List ℕ} {header : Header} {count : ℕ} {array : List ℕ} → AcceptedAs bytes header count array → AllNarrow (header .geometry) (take count array) bytes (header .nodes)
+found-narrow {bytes} {header} {count} {array} found n h =
+    let chart : Chart = chartIn bytes in
+    let blocks : take count array ≡ chart .blocks = laid-take mostBlocks count array (chart .blocks) (found .count-is) (found .array-is) in
+    subst (λ (l : List ℕ). ColumnsNarrow (plannedBy (header .geometry) l (nodeAt bytes n .what))) (sym blocks)
+    (subst (λ (g : Header). ColumnsNarrow (plannedBy (g .geometry) (chart .blocks) (nodeAt bytes n .what))) (sym (found .header-is))
+    (narrow-columns chart (chart .header .geometry) (accepted-few bytes chart (found .read)) (nodeAt bytes n .what)
+    (λ touch i. accepted-column bytes chart (found .read) n (subst (λ (g : Header). n < g .nodes) (found .header-is) h) touch i)))
 
 -- Bytes that are no chart's ask nothing of the lists.
 pub refused-draws : (bytes columns plan : List ℕ) (refusal : Refusal) → readChart bytes ≡ refused refusal → Draws bytes columns plan

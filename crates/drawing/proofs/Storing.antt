@@ -9,19 +9,16 @@ use lib.ListN.{length, getD, set, length-set}
 use lib.Seq.{getD-set-same, getD-set-other}
 use Rattle.lists.specs.Loops.{patch}
 use Rattle.lists.proofs.Loops.{patch-in}
-use Rattle.blocks.proofs.Search.{place-le}
 use Rattle.chart.specs.declared.shape.Geometry.{Geometry}
 use Rattle.chart.specs.declared.records.Node.{Node}
-use Rattle.chart.specs.declared.records.Record.{Record}
-use Rattle.chart.specs.declared.records.Record.the-variants as what
-use Rattle.chart.specs.Geometry.{mostBlocks, blockOf}
+use Rattle.chart.specs.Geometry.{mostBlocks}
 use Rattle.chart.specs.Chart.{nodeAt}
 use Rattle.plan.specs.declared.PlannedRecord.{PlannedRecord}
 use Rattle.plan.specs.declared.PlannedRecord.the-variants.{Step, Reference}
 use Rattle.plan.specs.declared.PlannedNode.{PlannedNode}
 use Rattle.plan.specs.Listed.{nodePlace, plannedOf, nodeFrom, nodeIn}
 use Rattle.drawing.specs.Columns.{firstAlike, ColumnsDrawn}
-use Rattle.drawing.specs.Nodes.{kindNumber, columnNumber, deedNumber, nodeNumbers, ColumnNarrow, Narrow, plannedBy, nodeBy, NodesDrawn}
+use Rattle.drawing.specs.Nodes.{kindNumber, columnsNumber, deedNumber, nodeNumbers, ColumnsNarrow, Narrow, plannedBy, nodeBy, NodesDrawn}
 
 -- ---- columns
 
@@ -70,43 +67,46 @@ patch-behind l base (suc n) f k h =
     getD-set-other (patch l base n f) (base + n) k (f n) 0 (λ e. omega arith) ∙ patch-behind l base n f k h
 
 -- A record, read back from its numbers.
-planned-back : (planned : PlannedRecord) → plannedOf (kindNumber planned) (columnNumber planned) ≡ planned
-planned-back Step = refl
-planned-back (Reference touch) = go (touch .write)
+planned-back : (planned : PlannedRecord) → ColumnsNarrow planned → plannedOf (kindNumber planned) (columnsNumber planned % mostBlocks) (columnsNumber planned / mostBlocks) ≡ planned
+planned-back Step narrow = refl
+planned-back (Reference reference) narrow =
+    let lower : columnsNumber (Reference reference) % mostBlocks ≡ reference .lower = omega (arith, narrow .0) in
+    let upper : columnsNumber (Reference reference) / mostBlocks ≡ reference .upper = omega (arith, narrow .0) in
+    (λ i. plannedOf (cond (reference .write) 2 1) (lower i) (upper i)) ∙ go (reference .write)
   where
-    go : (write : Bool) → plannedOf (cond write 2 1) (touch .column) ≡ Reference (record { column = touch .column; write = write })
+    go : (write : Bool) → plannedOf (cond write 2 1) (reference .lower) (reference .upper) ≡ Reference (record { lower = reference .lower; upper = reference .upper; write = write })
     go true = refl
     go false = refl
 
 kind-few : (planned : PlannedRecord) → kindNumber planned < 4
 kind-few Step = omega arith
-kind-few (Reference touch) = go (touch .write)
+kind-few (Reference reference) = go (reference .write)
   where
     go : (write : Bool) → cond write 2 1 < 4
     go true = omega arith
     go false = omega arith
 
--- Kind, number of arrows and column, read back from the one number.
-deed-back : (kind outs column : ℕ) → kind < 4 → outs < 4
-    → (deedNumber kind outs column % 4 ≡ kind) × ((deedNumber kind outs column / 4 % 4 ≡ outs) × (deedNumber kind outs column / 16 ≡ column))
-deed-back kind outs column k o = (omega arith, (omega arith, omega arith))
+-- Kind, number of arrows and columns, read back from the one number.
+deed-back : (kind outs columns : ℕ) → kind < 4 → outs < 4
+    → (deedNumber kind outs columns % 4 ≡ kind) × ((deedNumber kind outs columns / 4 % 4 ≡ outs) × (deedNumber kind outs columns / 16 ≡ columns))
+deed-back kind outs columns k o = (omega arith, (omega arith, omega arith))
 
 module _ (n : ℕ) (node : PlannedNode) (plan after : List ℕ) (narrow : Narrow node) (room : nodePlace n + 3 ≤ length plan) (put : after ≡ patch plan (nodePlace n) 3 (λ k. getD (nodeNumbers node) k 0)) where
   number : (k : ℕ) → k < 3 → getD after (nodePlace n + k) 0 ≡ getD (nodeNumbers node) k 0
   number k h = ap (λ (l : List ℕ). getD l (nodePlace n + k) 0) put ∙ patch-in plan (nodePlace n) 3 (λ j. getD (nodeNumbers node) j 0) k room h
 
-  deed : getD after (nodePlace n) 0 ≡ deedNumber (kindNumber (node .what)) (node .targets .outs) (columnNumber (node .what))
+  deed : getD after (nodePlace n) 0 ≡ deedNumber (kindNumber (node .what)) (node .targets .outs) (columnsNumber (node .what))
   deed = let here : nodePlace n + 0 ≡ nodePlace n = omega arith in rw here at (number 0 (omega arith))
 
   node-back : nodeIn after n ≡ node
   node-back =
       let kind : ℕ = kindNumber (node .what) in
       let outs : ℕ = node .targets .outs in
-      let column : ℕ = columnNumber (node .what) in
-      let back = deed-back kind outs column (kind-few (node .what)) (narrow .outs) in
+      let columns : ℕ = columnsNumber (node .what) in
+      let back = deed-back kind outs columns (kind-few (node .what)) (narrow .outs) in
       (λ i. nodeFrom (deed i) (number 1 (omega arith) i) (number 2 (omega arith) i))
       ∙ (λ i. record {
-        what = ((λ j. plannedOf (back .0 j) (back .1 .1 j)) ∙ planned-back (node .what)) i;
+        what = ((λ j. plannedOf (back .0 j) (back .1 .1 j % mostBlocks) (back .1 .1 j / mostBlocks)) ∙ planned-back (node .what) (narrow .columns)) i;
         targets = record { outs = back .1 .0 i; first = node .targets .first; second = node .targets .second };
       })
 
@@ -142,15 +142,11 @@ module _ (geometry : Geometry) (blocks bytes : List ℕ) (n : ℕ) (node : Node)
   pub node-planned : record { what = planned; targets = node .targets } ≡ nodeBy geometry blocks (nodeAt bytes n)
   node-planned = (λ i. record { what = planned-is i; targets = node .targets }) ∙ ap (nodeBy geometry blocks) read
 
-  planned-narrow : length blocks ≤ mostBlocks → (what : Record) → ColumnNarrow (plannedBy geometry blocks what)
-  planned-narrow few what.Step = tt
-  planned-narrow few (what.Reference reference) = omega (arith, place-le (blockOf geometry (reference .address)) blocks)
-
-  pub node-narrow : length blocks ≤ mostBlocks → Narrow (record { what = planned; targets = node .targets })
-  node-narrow few =
+  pub node-narrow : ColumnsNarrow (plannedBy geometry blocks (nodeAt bytes n .what)) → Narrow (record { what = planned; targets = node .targets })
+  node-narrow narrow =
       subst Narrow (sym node-planned)
       (record {
-        column = planned-narrow few (nodeAt bytes n .what);
+        columns = narrow;
         outs = omega arith;
         first = omega arith;
         second = omega arith;

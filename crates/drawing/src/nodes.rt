@@ -1,5 +1,5 @@
 // Works out what each node does, a block known by its place in the list of blocks, and stores it in a plan. Callers keep that the records are
-// there, that the blocks ascend, and that there is room. Nothing is refused here.
+// there and end within 32 bits, that the blocks ascend and all that are touched are among them, and that there is room. Nothing is refused here.
 ghost use mathlib.Core.Path.{_≡_};
 ghost use Prim.Native.Nat.{_+_, _^_, _≤_, _<_};
 ghost use lib.ListN.{length, getD, take};
@@ -7,14 +7,16 @@ ghost use Rattle.lists.specs.Loops.{patch};
 ghost use Rattle.blocks.specs.Listing.{Ascending};
 ghost use Rattle.chart.specs.Layout.{chartLength};
 ghost use Rattle.chart.specs.Geometry.{mostBlocks};
-ghost use Rattle.chart.specs.Chart.{nodeAt};
+ghost use Rattle.chart.specs.Record.{Ends};
+ghost use Rattle.chart.specs.Chart.{recordsIn, nodeAt};
+ghost use Rattle.chart.specs.Inner.{AllEnd};
 ghost use Rattle.plan.specs.Listed.{nodePlace};
-ghost use Rattle.drawing.specs.Nodes.{kindNumber, columnNumber, nodeNumbers, Narrow, ColumnNarrow, plannedBy, nodeBy, NodesDrawn};
-use ages::ColumnTouch;
+ghost use Rattle.drawing.specs.Nodes.{kindNumber, columnsNumber, nodeNumbers, Narrow, ColumnsNarrow, plannedBy, nodeBy, AllNarrow, NodesDrawn};
 use blocks::place_in;
 use chart::Geometry;
 use chart::Header;
 use chart::Record;
+use plan::ColumnTouches;
 use plan::PlannedNode;
 use plan::PlannedRecord;
 
@@ -22,22 +24,22 @@ use plan::PlannedRecord;
 fn kind_number(planned: PlannedRecord) -> u16
     ensures { λ r. ⌜ (r ≡ kindNumber planned) × (r ≤ 2) ⌝ }
 {
-    let PlannedRecord::Reference(touch) = planned else {
+    let PlannedRecord::Reference(reference) = planned else {
         return 0;
     };
-    let write = touch.write;
+    let write = reference.write;
     if write { 2 } else { 1 }
 }
 
-// The column of a reference, 0 for a bare step.
-fn column_number(planned: PlannedRecord) -> u16
-    requires { ⌜ ColumnNarrow planned ⌝ }
-    ensures { λ r. ⌜ (r ≡ columnNumber planned) × (r < 2 ^ 8) ⌝ }
+// Both columns of a reference in one number, 0 for a bare step.
+fn columns_number(planned: PlannedRecord) -> u16
+    requires { ⌜ ColumnsNarrow planned ⌝ }
+    ensures { λ r. ⌜ (r ≡ columnsNumber planned) × (r < 2 ^ 12) ⌝ }
 {
-    let PlannedRecord::Reference(touch) = planned else {
+    let PlannedRecord::Reference(reference) = planned else {
         return 0;
     };
-    touch.column as u16
+    reference.lower as u16 + Geometry::BLOCKS as u16 * reference.upper as u16
 }
 
 // Stores the three numbers of node n, and nothing elsewhere.
@@ -49,26 +51,37 @@ fn put_node(plan: &mut [u16], n: usize, node: PlannedNode)
     let planned = node.what;
     let targets = node.targets;
     let kind = kind_number(planned);
-    let column = column_number(planned);
+    let columns = columns_number(planned);
     let place = plan::HEAD + plan::NODE * n;
-    plan[place] = kind + 4 * targets.outs as u16 + 16 * column;
+    plan[place] = kind + 4 * targets.outs as u16 + 16 * columns;
     plan[place + 1] = targets.first as u16;
     plan[place + 2] = targets.second as u16;
 }
 
-// What a record does to the columns of the first `count` blocks.
+// What a record does to the columns of the first `count` blocks. The upper block is looked for only where it is another than the lower.
 fn planned_of(geometry: Geometry, blocks: &[u32], count: usize, what: Record) -> PlannedRecord
     requires { ⌜ count ≤ length (now blocks) ⌝ }
     requires { ⌜ Ascending count (now blocks) ⌝ }
+    requires { ⌜ Ends what ⌝ }
     ensures { λ r. ⌜ r ≡ plannedBy geometry (take count (now (blocks .entry))) what ⌝ }
 {
     let Record::Reference(reference) = what else {
         return PlannedRecord::Step;
     };
-    let block = geometry.block_of(reference.address);
-    let column = place_in(blocks, count, block);
-    PlannedRecord::Reference(ColumnTouch {
-        column: column,
+    let lower_block = geometry.block_of(reference.address);
+    let upper_block = geometry.block_of(reference.last as u32);
+    let lower = place_in(blocks, count, lower_block);
+    if lower_block == upper_block {
+        return PlannedRecord::Reference(ColumnTouches {
+            lower: lower,
+            upper: lower,
+            write: reference.write,
+        });
+    }
+    let upper = place_in(blocks, count, upper_block);
+    PlannedRecord::Reference(ColumnTouches {
+        lower: lower,
+        upper: upper,
         write: reference.write,
     })
 }
@@ -84,6 +97,8 @@ pub(crate) fn draw_nodes(
     requires { ⌜ (length (now chart) ≡ chartLength (header .nodes)) × (nodePlace (header .nodes) ≤ length (now plan)) ⌝ }
     requires { ⌜ (count ≤ mostBlocks) × (count ≤ length (now blocks)) ⌝ }
     requires { ⌜ Ascending count (now blocks) ⌝ }
+    requires { ⌜ AllEnd (recordsIn (now chart)) (header .nodes) ⌝ }
+    requires { ⌜ AllNarrow (header .geometry) (take count (now blocks)) (now chart) (header .nodes) ⌝ }
     ensures { λ _. ⌜ NodesDrawn (header .nodes) (λ n. nodeBy (header .geometry) (take count (now (blocks .entry))) (nodeAt (now (chart .entry)) n)) (now (plan .entry)) (now (plan .exit)) ⌝ }
 {
     let geometry = header.geometry;

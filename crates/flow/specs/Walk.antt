@@ -1,4 +1,4 @@
--- Walks, and what a machine does and pays along one. Rules 2.7, 5.1 to 5.3 and 7.9, for any nodes, any touches and any machine: it begins with
+-- Walks, and what a machine does and pays along one. Rules 2.7, 3.3, 5.1 to 5.3 and 7.9, for any nodes, any touches and any machine: it begins with
 -- some contents, acts on them at each touch, and finds each a hit or a miss.
 -- Choices: a walk is the entry and the list of the nodes after it; it reaches the node where it ends, since it can end at any.
 use mathlib.Core.Path.{_≡_}
@@ -35,7 +35,7 @@ visitsOf n (k ∷ ks) = cond (eqb k n) 1 0 + visitsOf n ks
 
 -- ---- touches in turn
 
--- Rule 2.7: a bare step has no touches, and x comes out as it went in.
+-- Rules 2.7 and 3.3: one touch after another; a bare step has none, and x comes out as it went in.
 abbrev pub inTurn : {E X : Type 0} → (E → X → X) → List E → X → X
 inTurn act [] x = x
 inTurn act (e ∷ es) x = inTurn act es (act e x)

@@ -13,8 +13,7 @@ use Rattle.lists.proofs.Listed.{getD-listOf}
 use Rattle.chart.specs.Geometry.{mostBlocks}
 use Rattle.chart.specs.Record.{arrowsOf, Leads}
 use Rattle.chart.specs.declared.records.Targets.{Targets}
-use Rattle.ages.specs.declared.ColumnTouch.{ColumnTouch}
-use Rattle.ages.specs.Plan.{PlanNode, Plan, nothing, columnsOf, touchesIn, arrowsIn}
+use Rattle.ages.specs.Plan.{ColumnTouch, PlanNode, Plan, nothing, columnsOf, touchesIn, arrowsIn}
 use Rattle.plan.specs.declared.PlannedRecord.{PlannedRecord}
 use Rattle.plan.specs.declared.PlannedRecord.the-variants.{Step, Reference}
 use Rattle.plan.specs.Listed.{nodesIn, blocksIn, nodePlace, nodeIn, touchesBy, planNode, planIn, Drawn, RecordIn}
@@ -75,12 +74,18 @@ module _ (columns plan : List ℕ) where
       where
         go : (planned : PlannedRecord) → ((touch : ColumnTouch) → Among touch (touchesBy planned) → touch .column < blocksIn plan) → RecordIn (blocksIn plan) planned
         go Step each = tt
-        go (Reference touch) each = each touch (inl refl)
+        go (Reference reference) each =
+            let lower : reference .lower < blocksIn plan = each (record { column = reference .lower; write = reference .write }) (inl refl) in
+            (lower, upper-in (eqb (reference .lower) (reference .upper)) refl)
+          where
+            upper-in : (t : Bool) → eqb (reference .lower) (reference .upper) ≡ t → reference .upper < blocksIn plan
+            upper-in true e = let same = eqb-true (reference .lower) (reference .upper) e in omega (arith, each (record { column = reference .lower; write = reference .write }) (inl refl))
+            upper-in false e = each (record { column = reference .upper; write = reference .write }) (rw e (inr (inl refl)))
 
--- A reference that is of one of so many columns is of one of more.
+-- A reference that is of two of so many columns is of two of more.
 pub record-fits : (count more : ℕ) → count ≤ more → (planned : PlannedRecord) → RecordIn count planned → RecordIn more planned
 record-fits count more few Step inside = tt
-record-fits count more few (Reference touch) inside = omega arith
+record-fits count more few (Reference reference) inside = (omega (arith, inside .0), omega (arith, inside .1))
 
 -- The head of a plan is there.
 pub head-listed : (columns plan : List ℕ) → Drawn columns plan → 4 ≤ length plan

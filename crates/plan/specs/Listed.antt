@@ -1,7 +1,8 @@
--- Which plan two flat lists of numbers hold. Rules 2.2 and 2.7, of a plan's numbers; how they are laid out is no rule's. `columns` has three runs,
--- each with room for the most blocks: set keys, must limits, may limits. `plan` begins with N, B, the entry and 1 for an empty start; three numbers
--- follow for each node: kind in two bits, how many arrows in the next two and above them the column; then where the two arrows lead. A number that
--- is not there counts as 0, a start other than 0 as empty, and kind 3, which no chart has, as a read.
+-- Which plan two flat lists of numbers hold. Rules 2.2, 2.7 and 3.3, of a plan's numbers; how they are laid out is no rule's. `columns` has three
+-- runs, each with room for the most blocks: set keys, must limits, may limits. `plan` begins with N, B, the entry and 1 for an empty start; three
+-- numbers follow for each node: kind in two bits, how many arrows in the next two and above them the columns of the lower and the upper block; then
+-- where the two arrows lead. A reference to one block has its column twice. A number that is not there counts as 0, a start other than 0 as
+-- empty, and kind 3, which no chart has, as a read.
 use Prim.Native.Nat.{ℕ, _+_, _*_, _/_, _%_, _≤_, _<_}
 use mathlib.Core.Bool.{Bool, not, cond}
 use mathlib.Core.List.{List, [], _∷_}
@@ -11,8 +12,7 @@ use Rattle.lists.specs.Lists.{listOf}
 use Rattle.lists.specs.Slices.{Passed, Slice}
 use Rattle.chart.specs.Geometry.{mostNodes, mostBlocks}
 use Rattle.chart.specs.Record.{arrowsOf}
-use Rattle.ages.specs.declared.ColumnTouch.{ColumnTouch}
-use Rattle.ages.specs.Plan.{PlanNode, Plan, Sound}
+use Rattle.ages.specs.Plan.{ColumnTouch, PlanNode, Plan, Sound}
 use Rattle.plan.specs.declared.PlannedRecord.{PlannedRecord}
 use Rattle.plan.specs.declared.PlannedRecord.the-variants.{Step, Reference}
 use Rattle.plan.specs.declared.PlannedNode.{PlannedNode}
@@ -35,15 +35,15 @@ emptyIn plan = not (eqb (getD plan 3 0) 0)
 abbrev pub nodePlace : ℕ → ℕ
 nodePlace n = 4 + 3 * n
 
--- Rule 2.2: what a kind of this number does to this column.
-abbrev pub plannedOf : ℕ → ℕ → PlannedRecord
-plannedOf kind column = cond (eqb kind 0) Step (Reference (record { column = column; write = eqb kind 2 }))
+-- Rule 2.2: what a kind of this number does to these two columns.
+abbrev pub plannedOf : ℕ → ℕ → ℕ → PlannedRecord
+plannedOf kind lower upper = cond (eqb kind 0) Step (Reference (record { lower = lower; upper = upper; write = eqb kind 2 }))
 
 -- A node as the functions hand it on, by its three numbers.
 abbrev pub nodeFrom : ℕ → ℕ → ℕ → PlannedNode
 nodeFrom deed first second =
     record {
-      what = plannedOf (deed % 4) (deed / 16);
+      what = plannedOf (deed % 4) (deed / 16 % mostBlocks) (deed / 16 / mostBlocks);
       targets = record { outs = deed / 4 % 4; first = first; second = second };
     }
 
@@ -51,15 +51,18 @@ nodeFrom deed first second =
 abbrev pub nodeIn : List ℕ → ℕ → PlannedNode
 nodeIn plan n = nodeFrom (getD plan (nodePlace n) 0) (getD plan (nodePlace n + 1) 0) (getD plan (nodePlace n + 2) 0)
 
--- Rule 2.7: a bare step has no touch, so that nothing is done for it.
+-- Rule 3.3, by columns: the lower block first, and then the upper if that is another. Rule 2.7: a bare step has no touch, so that nothing is done
+-- for it.
 abbrev pub touchesBy : PlannedRecord → List ColumnTouch
 touchesBy Step = []
-touchesBy (Reference touch) = touch ∷ []
+touchesBy (Reference reference) =
+    record { column = reference .lower; write = reference .write }
+    ∷ cond (eqb (reference .lower) (reference .upper)) [] (record { column = reference .upper; write = reference .write } ∷ [])
 
--- A reference is of one of the columns.
+-- A reference is of two of the columns, or twice of one.
 abbrev pub RecordIn : ℕ → PlannedRecord → Type 0
 RecordIn count Step = Unit {0}
-RecordIn count (Reference touch) = touch .column < count
+RecordIn count (Reference reference) = (reference .lower < count) × (reference .upper < count)
 
 -- What a node does, as a plan has it.
 abbrev pub planNode : PlannedNode → PlanNode

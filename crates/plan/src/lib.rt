@@ -4,7 +4,6 @@ ghost use mathlib.Core.Path.{_≡_};
 ghost use Prim.Native.Nat.{_+_, _≤_, _<_};
 ghost use lib.ListN.{length};
 ghost use Rattle.plan.specs.Listed.{nodesIn, blocksIn, entryIn, emptyIn, plannedOf, nodePlace, nodeIn};
-use ages::ColumnTouch;
 use chart::Geometry;
 use chart::Targets;
 
@@ -24,10 +23,17 @@ pub const HEAD: usize = 4;
 
 pub const NODE: usize = 3;
 
-// What a record does: a bare step, or a reference to the block in a column.
+// A reference by the columns of its lower and its upper block; they are one column where it is within one line.
+pub struct ColumnTouches {
+    pub lower: usize,
+    pub upper: usize,
+    pub write: bool,
+}
+
+// What a record does: a bare step, or a reference.
 pub enum PlannedRecord {
     Step,
-    Reference(ColumnTouch),
+    Reference(ColumnTouches),
 }
 
 // What a node does, and where its arrows lead.
@@ -75,15 +81,16 @@ pub fn empty_in(plan: &[u16]) -> bool
     plan[3] != 0
 }
 
-// What a node of this kind does to this column (rule 2.2); a kind that there is not reads.
-fn planned_of(kind: usize, column: usize) -> PlannedRecord
-    ensures { λ r. ⌜ r ≡ plannedOf kind column ⌝ }
+// What a node of this kind does to these two columns (rule 2.2); a kind that there is not reads.
+fn planned_of(kind: usize, lower: usize, upper: usize) -> PlannedRecord
+    ensures { λ r. ⌜ r ≡ plannedOf kind lower upper ⌝ }
 {
     if kind == 0 {
         return PlannedRecord::Step;
     }
-    PlannedRecord::Reference(ColumnTouch {
-        column: column,
+    PlannedRecord::Reference(ColumnTouches {
+        lower: lower,
+        upper: upper,
         write: kind == 2,
     })
 }
@@ -95,7 +102,8 @@ pub fn node_in(plan: &[u16], n: usize) -> PlannedNode
 {
     let place = HEAD + NODE * n;
     let deed = wide(plan[place]);
-    let planned = planned_of(deed % 4, deed / 16);
+    let both = deed / 16;
+    let planned = planned_of(deed % 4, both % Geometry::BLOCKS, both / Geometry::BLOCKS);
     let targets = Targets {
         outs: deed / 4 % 4,
         first: wide(plan[place + 1]),

@@ -6,7 +6,7 @@ use lib.ListN.{getD, replicate, take}
 use lib.Dec.{eqb}
 use Rattle.lists.specs.Choice.{_⇒_, firstCase}
 use Rattle.lists.specs.Lists.{listOf, joined}
-use Rattle.chart.specs.Geometry.{mostNodes, mostBlocks, longestChart, allPasses}
+use Rattle.chart.specs.Geometry.{mostNodes, mostBlocks, mostTouches, longestChart, allPasses}
 use Rattle.chart.specs.Header.{headerIn}
 use Rattle.refusals.specs.declared.Refusal.{Refusal}
 use Rattle.refusals.specs.declared.Refusal.the-variants as refusals
@@ -32,9 +32,14 @@ classWord class =
     ∷ [])
     noneWord
 
--- Rule 14.2: the line of node n.
+-- Rule 14.2: a space, and the word of a class.
+abbrev pub spacedWord : ℕ → List ℕ
+spacedWord class = space ++ classWord class
+
+-- Rule 14.2: the line of node n, with the words of its two classes.
 abbrev pub nodeLine : List ℕ → ℕ → List ℕ
-nodeLine classes n = decimal n ++ space ++ classWord (getD classes n 0) ++ lineFeed
+nodeLine classes n =
+    decimal n ++ spacedWord (getD classes (mostTouches * n) 0) ++ spacedWord (getD classes (mostTouches * n + 1) 0) ++ lineFeed
 
 -- Rule 14.3, as in `refused 9 at 2`.
 abbrev pub refusalLine : Refusal → List ℕ
@@ -58,7 +63,7 @@ zeroBuffers nodes blocks =
       must = replicate (nodes * blocks) 0;
       may = replicate (nodes * blocks) 0;
       marks = replicate nodes 0;
-      classes = replicate nodes 0;
+      classes = replicate (mostTouches * nodes) 0;
     }
 
 -- Rules 14.1 to 14.3: the report of what the analysis of these bytes left. N is the header's.

@@ -26,9 +26,13 @@ mostLetters = 9
 abbrev pub mostFirst : ℕ
 mostFirst = 23 + 3 * mostDigits
 
--- Of a node's line: its number and its class, a space and a line feed.
+-- Of a class in a line: a space and its word.
+abbrev pub mostSpaced : ℕ
+mostSpaced = 1 + mostLetters
+
+-- Of a node's line: its number, its classes, and a line feed.
 abbrev pub mostNode : ℕ
-mostNode = mostDigits + mostLetters + 2
+mostNode = mostDigits + mostSpaced + mostSpaced + 1
 
 -- Of a refusal's line: "refused ", " at " and a line feed, and two numbers.
 abbrev pub mostRefused : ℕ

@@ -36,7 +36,7 @@ fn report_bytes(chart: &[u8]) -> Text
     let mut must = [0u8; Geometry::AGES];
     let mut may = [0u8; Geometry::AGES];
     let mut marks = [0u8; Geometry::NODES];
-    let mut classes = [0u8; Geometry::NODES];
+    let mut classes = [0u8; Geometry::CLASSES];
     let answer = analysis::analyse(
         chart,
         Geometry::PASSES,

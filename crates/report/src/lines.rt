@@ -3,13 +3,15 @@
 ghost use Prim.Native.Nat.{_+_, _*_, _≤_, _<_};
 ghost use lib.ListN.{length};
 ghost use Rattle.lists.specs.Lists.{listOf, joined};
+ghost use Rattle.chart.specs.Geometry.{mostTouches};
 ghost use Rattle.analysis.specs.declared.Analysed.the-variants.{Settled};
-ghost use Rattle.report.specs.Report.{classWord, nodeLine, reportOf, refusalLine};
-ghost use Rattle.report.specs.Written.{mostLetters, mostFirst, mostNode, mostRefused, Put};
+ghost use Rattle.report.specs.Report.{classWord, spacedWord, nodeLine, reportOf, refusalLine};
+ghost use Rattle.report.specs.Written.{mostLetters, mostFirst, mostSpaced, mostNode, mostRefused, Put};
 use crate::puts::put_byte;
 use crate::puts::put_decimal;
 use crate::puts::put_named;
 use crate::puts::put_word;
+use chart::Geometry;
 use refusals::Refusal;
 
 // Puts the word of a class (rule 14.2); any class above 3 reads as none.
@@ -26,22 +28,31 @@ fn put_class(text: &mut [u8], at: usize, class: u8) -> usize
     }
 }
 
-// Puts the line of a node, as `0 none`.
+// Puts a space and the word of a class.
+fn put_spaced(text: &mut [u8], at: usize, class: u8) -> usize
+    requires { ⌜ at + mostSpaced ≤ length (now text) ⌝ }
+    ensures { λ r. ⌜ Put mostSpaced (now (text .entry)) at (spacedWord class) (now (text .exit)) r ⌝ }
+{
+    let next = put_byte(text, at, b' ');
+    put_class(text, next, class)
+}
+
+// Puts the line of a node, as `0 none none`.
 fn put_node(text: &mut [u8], at: usize, n: usize, classes: &[u8]) -> usize
     requires { ⌜ at + mostNode ≤ length (now text) ⌝ }
-    requires { ⌜ n < length (now classes) ⌝ }
+    requires { ⌜ mostTouches * n + 1 < length (now classes) ⌝ }
     ensures { λ r. ⌜ Put mostNode (now (text .entry)) at (nodeLine (now (classes .entry)) n) (now (text .exit)) r ⌝ }
 {
     let mut next = put_decimal(text, at, n as u64);
-    next = put_byte(text, next, b' ');
-    next = put_class(text, next, classes[n]);
+    next = put_spaced(text, next, classes[Geometry::TOUCHES * n]);
+    next = put_spaced(text, next, classes[Geometry::TOUCHES * n + 1]);
     put_byte(text, next, b'\n')
 }
 
 // Puts the lines of the first `nodes` nodes.
 fn put_nodes(text: &mut [u8], at: usize, nodes: usize, classes: &[u8]) -> usize
     requires { ⌜ at + mostNode * nodes ≤ length (now text) ⌝ }
-    requires { ⌜ nodes ≤ length (now classes) ⌝ }
+    requires { ⌜ mostTouches * nodes ≤ length (now classes) ⌝ }
     ensures { λ r. ⌜ Put (mostNode * nodes) (now (text .entry)) at (joined (listOf nodes (nodeLine (now (classes .entry))))) (now (text .exit)) r ⌝ }
 {
     let mut next = at;
@@ -60,7 +71,7 @@ pub(crate) fn put_settled(
     blocks: usize,
 ) -> usize
     requires { ⌜ mostFirst + mostNode * nodes ≤ length (now text) ⌝ }
-    requires { ⌜ nodes ≤ length (now classes) ⌝ }
+    requires { ⌜ mostTouches * nodes ≤ length (now classes) ⌝ }
     ensures { λ r. ⌜ Put (mostFirst + mostNode * nodes) (now (text .entry)) 0 (reportOf nodes (now (classes .entry)) (Settled passes blocks)) (now (text .exit)) r ⌝ }
 {
     let mut next = put_named(text, 0, b"nodes ", nodes as u64);

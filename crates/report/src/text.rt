@@ -1,9 +1,9 @@
 // The report as a value: its bytes in an array, how many there are, and whether they are a refusal's line. Callers keep that there are no more
-// nodes than a chart may have, each with a class: then every report fits. Nothing is refused here.
+// nodes than a chart may have, each with its classes: then every report fits. Nothing is refused here.
 ghost use mathlib.Core.Path.{_≡_};
-ghost use Prim.Native.Nat.{_≤_};
+ghost use Prim.Native.Nat.{_*_, _≤_};
 ghost use lib.ListN.{length};
-ghost use Rattle.chart.specs.Geometry.{mostNodes};
+ghost use Rattle.chart.specs.Geometry.{mostNodes, mostTouches};
 ghost use Rattle.report.specs.Report.{reportOf};
 ghost use Rattle.report.specs.Ending.{refusedBy};
 ghost use Rattle.report.specs.Written.{mostText, textOf};
@@ -28,8 +28,8 @@ impl Text {
     // The most bytes of a settled chart's first line, with three numbers.
     const FIRST: usize = 23 + 3 * Text::DIGITS;
 
-    // The most bytes of a node's line, with a number and a class of at most 9 letters.
-    const NODE: usize = Text::DIGITS + 9 + 2;
+    // The most bytes of a node's line, with a number, two classes of at most 9 letters, two spaces and a line feed.
+    const NODE: usize = Text::DIGITS + Geometry::TOUCHES * 10 + 1;
 
     // The most bytes of a report.
     pub const MOST: usize = Text::FIRST + Text::NODE * Geometry::NODES;
@@ -38,7 +38,7 @@ impl Text {
 // Answers the report of an analysis that gave this answer and these classes for a chart of so many nodes; after a refusal only the answer counts.
 pub(crate) fn written(nodes: usize, classes: &[u8], answer: Analysed) -> Text
     requires { ⌜ nodes ≤ mostNodes ⌝ }
-    requires { ⌜ nodes ≤ length (now classes) ⌝ }
+    requires { ⌜ mostTouches * nodes ≤ length (now classes) ⌝ }
     ensures { λ r. ⌜ r ≡ textOf (reportOf nodes (now (classes .entry)) answer) (refusedBy answer) ⌝ }
     ensures { λ r. ⌜ r .size ≤ mostText ⌝ }
 {

@@ -1,4 +1,4 @@
--- A row as it is held by value, and what a record makes of it. Rule 6.5; rules 6.3 and 6.4 come in by the definitions of `cache`. A row has
+-- A row as it is held by value, and what a record makes of ages. Rules 3.3 and 6.5; rules 6.3 and 6.4 come in by the definitions of `cache`. A row has
 -- `mostBlocks` places, the first of them for the chart's blocks: ages are worked out for all, and no answer depends on the rest.
 -- What else is here inner functions promise one another.
 use Prim.Native.Nat.{ℕ, _+_, _*_}
@@ -6,6 +6,8 @@ use mathlib.Core.Bool.{cond}
 use mathlib.Core.List.{List}
 use lib.ListN.{getD}
 use lib.Dec.{eqb}
+use denote.Ref.{now}
+use Rattle.lists.specs.Slices.{Slice}
 use Rattle.chart.specs.Geometry.{mostBlocks}
 use Rattle.cache.specs.Ages.{Columns, Ages}
 use Rattle.flow.specs.Walk.{inTurn}
@@ -31,7 +33,14 @@ agesIn row = record { must = row .must; may = row .may }
 abbrev pub asRow : Ages → Row
 asRow a = record { must = a .must; may = a .may }
 
--- Rule 6.5: a bare step has no touch and changes no age; a touch does what rules 6.3 and 6.4 say.
+-- The ages in two lent lists, as the clauses of a contract name them: at entry and at exit.
+abbrev pub entryAges : Slice → Slice → Ages
+entryAges must may = record { must = now (must .entry); may = now (may .entry) }
+
+abbrev pub exitAges : Slice → Slice → Ages
+exitAges must may = record { must = now (must .exit); may = now (may .exit) }
+
+-- Rules 3.3 and 6.5: the touches in turn, each as rules 6.3 and 6.4 say; a bare step has none and changes no age.
 abbrev pub afterRecord : Columns → PlannedRecord → Ages → Ages
 afterRecord columns planned a = inTurn (touchColumn columns) (touchesBy planned) a
 

@@ -55,7 +55,7 @@ module _ (columns plan : List ℕ) (drawn : Drawn columns plan) (n : ℕ) (insid
       rw cell as-laid
 
   pub marked-taken : agesUsed held ≤ length (lent .must) → agesUsed held ≤ length (lent .may) → (getD (lent .marks) n 0 ≡ 0 → ⊥)
-      → metIntoAll (blocksIn plan) (agesIn (rowAfter columns (lent .must) (lent .may) (blocksIn plan) n (nodeIn plan n .what))) (arrowsOf (nodeIn plan n .targets)) (record { lent = lent; changed = changed })
+      → metIntoAll (blocksIn plan) (rowAfter columns (lent .must) (lent .may) (blocksIn plan) n (nodeIn plan n .what)) (arrowsOf (nodeIn plan n .targets)) (record { lent = lent; changed = changed })
       ≡ overRun held lent (takeNode (planFlow held) n run)
   unfolding takeNode takeWith
   marked-taken must-room may-room e =
@@ -63,4 +63,4 @@ module _ (columns plan : List ℕ) (drawn : Drawn columns plan) (n : ℕ) (insid
       let stepped : Ages = planFlow held .step n (agesAt held lent n) in
       let long : CellAgesFit held (holds stepped) = step-fits held n (agesAt held lent n) (length-listOf (blocksIn plan) _, length-listOf (blocksIn plan) _) in
       rw (cell, as-laid, ← arrows-held columns plan n inside)
-      (all-laid held lent (agesIn (rowAfter columns (lent .must) (lent .may) (blocksIn plan) n (nodeIn plan n .what))) stepped long (after-agrees columns plan drawn n inside lent must-room may-room) (arrowsIn held n) (λ t. drawn .sound .arrows-in n t inside) run (tableOf-fits held lent))
+      (all-laid held lent (rowAfter columns (lent .must) (lent .may) (blocksIn plan) n (nodeIn plan n .what)) stepped long (after-agrees columns plan drawn n inside lent must-room may-room) (arrowsIn held n) (λ t. drawn .sound .arrows-in n t inside) run (tableOf-fits held lent))

@@ -8,7 +8,8 @@ ghost use Rattle.flow.specs.Pass.{takeNode};
 ghost use Rattle.ages.specs.Plan.{planFlow};
 ghost use Rattle.plan.specs.Listed.{nodesIn, DrawnIn, planAt};
 ghost use Rattle.tables.specs.Inner.{Roomy, overRun, runIn};
-ghost use Rattle.tables.specs.Contract.{entryTable, entryAges, entryRun, exitRun, RoomFor};
+ghost use Rattle.rows.specs.Rows.{entryAges};
+ghost use Rattle.tables.specs.Contract.{entryTable, entryRun, exitRun, RoomFor};
 ghost use Rattle.settling.specs.Inner.{metIntoAll, LiesIn};
 use chart::Targets;
 
@@ -67,7 +68,9 @@ pub(crate) fn take_node(
     let node = plan::node_in(plan, n);
     let planned = node.what;
     let targets = node.targets;
-    let after = tables::row_after(columns, must, may, blocks, n, planned);
+    let mut musts = tables::load_row(must, blocks, n);
+    let mut mays = tables::load_row(may, blocks, n);
+    rows::step(&mut musts, &mut mays, columns, planned);
     send_row(
         must,
         may,
@@ -75,8 +78,8 @@ pub(crate) fn take_node(
         nodes,
         blocks,
         targets,
-        &after.must,
-        &after.may,
+        &musts,
+        &mays,
         changed,
     )
 }

@@ -57,7 +57,7 @@ fn print_totals(answer: Totals) {
     }
 }
 
-// Writes what a record does, as `writes 64`.
+// Writes what a record does, as `writes 64 to 67`.
 fn print_record(what: Record) {
     let Record::Reference(reference) = what else {
         io::write_all(STDOUT_FILENO, b"step");
@@ -68,9 +68,10 @@ fn print_record(what: Record) {
     } else {
         print_named(b"reads ", reference.address as u64);
     }
+    print_named(b" to ", reference.last);
 }
 
-// Writes a node, as `writes 64, 1 arrows, first 2, second 0`.
+// Writes a node, as `writes 64 to 67, 1 arrows, first 2, second 0`.
 fn print_node(node: Node) {
     let what = node.what;
     let targets = node.targets;

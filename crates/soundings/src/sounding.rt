@@ -41,7 +41,7 @@ fn loop_table() -> Table
     let mut must = [0u8; 6];
     let mut may = [0u8; 6];
     let mut marks = [0u8; 3];
-    let mut classes = [0u8; 3];
+    let mut classes = [0u8; 6];
     analysis::analyse(
         &chart,
         Geometry::PASSES,
@@ -90,13 +90,13 @@ pub(crate) fn three_kinds() -> [u8; 32]
 {
     *b"\x01\x53\x64\x00\x0F\xF1\x23\x00\
        \x77\xAB\x6F\xBB\xE1\x23\x45\x60\
-       \xB7\xAB\x6F\xBB\xE1\x23\x45\x60\
+       \xB7\xAB\x6F\xBB\xE1\x23\x45\x61\
        \x37\xAB\x6F\xBB\xE1\x23\x45\x60"
 }
 
 // What the record of node 1 in them says.
 pub(crate) fn written_node() -> Node
-    ensures { λ r. ⌜ nodeOut r ≡ 2 ∷ 0xDEADBEEF ∷ 2 ∷ 0x123 ∷ 0x456 ∷ [] ⌝ }
+    ensures { λ r. ⌜ nodeOut r ≡ 2 ∷ 0xDEADBEEF ∷ 0xDEADBEF0 ∷ 2 ∷ 0x123 ∷ 0x456 ∷ [] ⌝ }
 {
     let chart = three_kinds();
     chart::node_at(&chart, 1)

@@ -1,10 +1,11 @@
 -- A row that is loaded and taken through its node's record has the ages of the step, in the columns of the plan; the row of the start has
 -- the start's.
 use Prim.Native.Nat.{ℕ, _+_, _-_, _*_, _≤_, _<_, min}
-use mathlib.Core.Bool.{cond}
-use mathlib.Core.List.{List}
+use mathlib.Core.Bool.{Bool, true, false, cond}
+use mathlib.Core.List.{List, [], _∷_}
 use mathlib.Core.Path.{_≡_, sym, ap, subst, _∙_}
 use native.Mathlib.Omega.{arith}
+use lib.Dec.{eqb}
 use lib.ListN.{length, getD, replicate}
 use Rattle.lists.specs.Lists.{listOf}
 use Rattle.lists.proofs.Listed.{length-listOf, getD-listOf}
@@ -14,8 +15,7 @@ use Rattle.cache.specs.Ages.{Ages, ageOf, mustAfter, mayAfter, touchAges, start
 use Rattle.cache.proofs.Touching.{touch-must, touch-may}
 use Rattle.flow.specs.Walk.{inTurn}
 use Rattle.layout.specs.Rows.{rowAt}
-use Rattle.ages.specs.declared.ColumnTouch.{ColumnTouch}
-use Rattle.ages.specs.Plan.{Plan, columnsOf, afterTouch, planFlow}
+use Rattle.ages.specs.Plan.{ColumnTouch, Plan, columnsOf, touchColumn, afterTouch, planFlow}
 use Rattle.plan.specs.declared.PlannedRecord.{PlannedRecord}
 use Rattle.plan.specs.declared.PlannedRecord.the-variants.{Step, Reference}
 use Rattle.plan.specs.Listed.{nodesIn, blocksIn, emptyIn, nodeIn, touchesBy, planIn, Drawn, RecordIn}
@@ -53,7 +53,17 @@ module _ (columns plan : List ℕ) (drawn : Drawn columns plan) where
   record-agrees : (planned : PlannedRecord) → RecordIn (blocksIn plan) planned → (row a : Ages) → AgesAgree (blocksIn plan) row a
       → AgesAgree (blocksIn plan) (afterRecord (columnsBy columns mostBlocks) planned row) (inTurn (afterTouch held) (touchesBy planned) a)
   record-agrees Step inside row a agree = agree
-  record-agrees (Reference touch) inside row a agree = touch-agrees (touch .column) inside row a agree
+  record-agrees (Reference reference) inside row a agree = go (eqb (reference .lower) (reference .upper))
+    where
+      both : Bool → List ColumnTouch
+      both t = record { column = reference .lower; write = reference .write } ∷ cond t [] (record { column = reference .upper; write = reference .write } ∷ [])
+
+      once : AgesAgree (blocksIn plan) (touchAges (columnsBy columns mostBlocks) (reference .lower) row) (touchAges (columnsOf held) (reference .lower) a)
+      once = touch-agrees (reference .lower) (inside .0) row a agree
+
+      go : (t : Bool) → AgesAgree (blocksIn plan) (inTurn (touchColumn (columnsBy columns mostBlocks)) (both t) row) (inTurn (afterTouch held) (both t) a)
+      go true = once
+      go false = touch-agrees (reference .upper) (inside .1) _ _ once
 
   module _ (n : ℕ) (inside : n < nodesIn plan) (lent : Lent)
       (must-room : agesUsed held ≤ length (lent .must)) (may-room : agesUsed held ≤ length (lent .may)) where
@@ -63,16 +73,16 @@ module _ (columns plan : List ℕ) (drawn : Drawn columns plan) where
         record { few = drawn .few-blocks; columns-long = drawn .columns-long; must-in = omega arith; may-in = omega arith }
 
     -- A row that is loaded begins with the node's ages.
-    loaded-agrees : AgesAgree (blocksIn plan) (agesIn (loadedRow (blocksIn plan) n (lent .must) (lent .may))) (agesAt held lent n)
+    loaded-agrees : AgesAgree (blocksIn plan) (loadedRow (blocksIn plan) n (lent .must) (lent .may)) (agesAt held lent n)
     loaded-agrees =
         record {
           must = loaded-age (blocksIn plan) (drawn .few-blocks) n (lent .must) (row-loads .must-in);
           may = loaded-age (blocksIn plan) (drawn .few-blocks) n (lent .may) (row-loads .may-in);
         }
 
-    pub after-agrees : AgesAgree (blocksIn plan) (agesIn (rowAfter columns (lent .must) (lent .may) (blocksIn plan) n (nodeIn plan n .what))) (planFlow held .step n (agesAt held lent n))
+    pub after-agrees : AgesAgree (blocksIn plan) (rowAfter columns (lent .must) (lent .may) (blocksIn plan) n (nodeIn plan n .what)) (planFlow held .step n (agesAt held lent n))
     after-agrees =
-        subst (AgesAgree (blocksIn plan) (agesIn (rowAfter columns (lent .must) (lent .may) (blocksIn plan) n (nodeIn plan n .what))))
+        subst (AgesAgree (blocksIn plan) (rowAfter columns (lent .must) (lent .may) (blocksIn plan) n (nodeIn plan n .what)))
         (ap (λ (ts : List ColumnTouch). inTurn (afterTouch held) ts (agesAt held lent n)) (sym (touches-held columns plan n inside)))
         (record-agrees (nodeIn plan n .what) (record-in columns plan drawn n inside) _ (agesAt held lent n) loaded-agrees)
 

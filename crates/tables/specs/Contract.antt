@@ -1,9 +1,8 @@
--- What the lent slices of a contract hold, put together: a table's three, at entry and at exit, and the ages of a row. Nothing here is a rule
--- of the tool: contracts say in a line what they promise.
+-- What the lent slices of a contract hold, put together: a table's three, at entry and at exit. Nothing here is a rule of the tool: contracts say in
+-- a line what they promise.
 use mathlib.Core.Bool.{Bool}
 use denote.Ref.{now}
 use Rattle.lists.specs.Slices.{Passed, Slice}
-use Rattle.cache.specs.Ages.{Ages}
 use Rattle.plan.specs.Listed.{nodesIn, blocksIn}
 use Rattle.tables.specs.Lent.{Lent}
 use Rattle.tables.specs.Inner.{LentRun, Roomy}
@@ -18,9 +17,6 @@ entryTable must may marks = lentTable (must .entry) (may .entry) (marks .entry)
 
 abbrev pub exitTable : Slice → Slice → Slice → Lent
 exitTable must may marks = lentTable (must .exit) (may .exit) (marks .exit)
-
-abbrev pub entryAges : Slice → Slice → Ages
-entryAges must may = record { must = now (must .entry); may = now (may .entry) }
 
 -- A table, and whether anything has changed.
 abbrev pub entryRun : Slice → Slice → Slice → Bool → LentRun

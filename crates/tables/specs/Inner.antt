@@ -10,8 +10,7 @@ use Rattle.lists.specs.Lists.{listOf, written}
 use Rattle.lists.specs.Loops.{patch}
 use Rattle.chart.specs.Geometry.{mostBlocks}
 use Rattle.plan.specs.declared.PlannedRecord.{PlannedRecord}
-use Rattle.rows.specs.declared.Row.{Row}
-use Rattle.rows.specs.Rows.{columnsBy, agesIn, asRow, afterRecord}
+use Rattle.rows.specs.Rows.{columnsBy, afterRecord}
 use Rattle.cache.specs.Ages.{Ages, ageOf}
 use Rattle.flow.specs.Pass.{Run}
 use Rattle.layout.specs.Joins.{joinedRow, rowMoves}
@@ -55,8 +54,8 @@ loaded base buffer =
 abbrev pub loadedTo : List ℕ → ℕ → ℕ → List ℕ
 loadedTo buffer base j = patch (replicate mostBlocks 0) 0 j (λ k. getD buffer (base + k) 0)
 
--- Row n of a lent table, by value.
-abbrev pub loadedRow : ℕ → ℕ → List ℕ → List ℕ → Row
+-- Row n of a lent table, as it is loaded.
+abbrev pub loadedRow : ℕ → ℕ → List ℕ → List ℕ → Ages
 loadedRow count n must may = record { must = loaded (n * count) must; may = loaded (n * count) may }
 
 -- Row n, and what stands in the lists of a plan for each column, can be loaded.
@@ -66,10 +65,10 @@ pub record Loads (columns must may : List ℕ) (count n : ℕ) : Type 0 where
   pub must-in : n * count + count ≤ length must
   pub may-in : n * count + count ≤ length may
 
--- Row n after a record, by value.
-abbrev pub rowAfter : List ℕ → List ℕ → List ℕ → ℕ → ℕ → PlannedRecord → Row
+-- All ages of row n after a record.
+abbrev pub rowAfter : List ℕ → List ℕ → List ℕ → ℕ → ℕ → PlannedRecord → Ages
 rowAfter columns must may count n planned =
-    asRow (afterRecord (columnsBy columns mostBlocks) planned (agesIn (loadedRow count n must may)))
+    afterRecord (columnsBy columns mostBlocks) planned (loadedRow count n must may)
 
 -- Two states whose ages are the same at each block; the row by value may be longer.
 pub record AgesAgree (count : ℕ) (row a : Ages) : Type 0 where

@@ -1,7 +1,5 @@
 // Rows of a table in lent buffers: loaded by value, filled, or met into what is there (rules 6.6 and 9.4). None of the functions refuses: callers
 // keep that the places lie within the buffers. Nothing is written but the places that are named, and the mark of a row that is met into.
-mod stepped;
-
 ghost use mathlib.Core.Path.{_≡_};
 ghost use Prim.Native.Nat.{_+_, _*_, _≤_, _<_, max, min};
 ghost use lib.ListN.{length};
@@ -9,12 +7,11 @@ ghost use Rattle.lists.specs.Loops.{patch};
 ghost use Rattle.chart.specs.Geometry.{mostBlocks};
 ghost use Rattle.cache.specs.Ages.{ageOf};
 ghost use Rattle.layout.specs.Joins.{RowJoined};
-ghost use Rattle.tables.specs.Inner.{loaded, loadedRow, grows, falls, metInto};
-ghost use Rattle.tables.specs.Contract.{entryAges, entryRun, exitRun};
+ghost use Rattle.tables.specs.Inner.{loaded, grows, falls, metInto};
+ghost use Rattle.rows.specs.Rows.{entryAges};
+ghost use Rattle.tables.specs.Contract.{entryRun, exitRun};
 use chart::Geometry;
-use rows::Row;
 use rows::smaller_of;
-pub use stepped::row_after;
 
 // What stands from a place on, as much as a row holds and there is, zeros after it.
 fn load(buffer: &[u8], base: usize) -> [u8; Geometry::BLOCKS]
@@ -34,39 +31,28 @@ fn load(buffer: &[u8], base: usize) -> [u8; Geometry::BLOCKS]
     ages
 }
 
-// The same of both kinds of ages, where there is as much as a row holds: the loop's length is fixed, and it stores into the row itself.
-fn load_whole(must: &[u8], may: &[u8], base: usize) -> Row
-    requires { ⌜ (base + mostBlocks ≤ length (now must)) × (base + mostBlocks ≤ length (now may)) ⌝ }
-    ensures { λ r. ⌜ r ≡ record { must = loaded base (now (must .entry)); may = loaded base (now (may .entry)) } ⌝ }
+// The same where there is as much as a row holds: the loop's length is fixed.
+fn load_whole(buffer: &[u8], base: usize) -> [u8; Geometry::BLOCKS]
+    requires { ⌜ base + mostBlocks ≤ length (now buffer) ⌝ }
+    ensures { λ r. ⌜ r ≡ loaded base (now (buffer .entry)) ⌝ }
 {
-    let mut row = Row {
-        must: [0u8; Geometry::BLOCKS],
-        may: [0u8; Geometry::BLOCKS],
-    };
+    let mut ages = [0u8; Geometry::BLOCKS];
     for j in 0..Geometry::BLOCKS {
-        row.must[j] = must[base + j];
-        row.may[j] = may[base + j];
+        ages[j] = buffer[base + j];
     }
-    row
+    ages
 }
 
-// Row n of a table of so many blocks, by value.
-fn load_row(must: &[u8], may: &[u8], blocks: usize, n: usize) -> Row
-    requires { ⌜ (n * blocks ≤ length (now must)) × (n * blocks ≤ length (now may)) ⌝ }
-    ensures { λ r. ⌜ r ≡ loadedRow blocks n (now (must .entry)) (now (may .entry)) ⌝ }
+// Answers the ages of row n in a buffer of rows of so many blocks, by value.
+pub fn load_row(buffer: &[u8], blocks: usize, n: usize) -> [u8; Geometry::BLOCKS]
+    requires { ⌜ n * blocks ≤ length (now buffer) ⌝ }
+    ensures { λ r. ⌜ r ≡ loaded (n * blocks) (now (buffer .entry)) ⌝ }
 {
     let base = n * blocks;
-    let must_room = must.len() - base;
-    let may_room = may.len() - base;
-    if (Geometry::BLOCKS <= must_room) & (Geometry::BLOCKS <= may_room) {
-        return load_whole(must, may, base);
+    if Geometry::BLOCKS <= buffer.len() - base {
+        return load_whole(buffer, base);
     }
-    let musts = load(must, base);
-    let mays = load(may, base);
-    Row {
-        must: musts,
-        may: mays,
-    }
+    load(buffer, base)
 }
 
 // Stores one value in so many places from `base` on.

@@ -1,10 +1,13 @@
--- What the totals' functions promise one another: what a node of a class adds to the two sums, and how large these can get. Nothing here is a rule
+-- What the totals' functions promise one another: what a touch of a class adds to the two sums, and how large these can get. Nothing here is a rule
 -- of the tool: `costs` has the sums of rules 10.2 and 10.3, and laws lead there.
 use Prim.Native.Nat.{ℕ, _+_, _*_, _≤_}
 use mathlib.Core.List.{List}
 use lib.ListN.{getD}
 use Rattle.lists.specs.Lists.{sumOf}
-use Rattle.costs.specs.Costs.{Costs, Figures, highRate, lowRate, classCost}
+use Rattle.cache.specs.Ages.{Ages}
+use Rattle.flow.specs.Flow.{Cell, cellAt}
+use Rattle.ages.specs.Plan.{Plan}
+use Rattle.costs.specs.Costs.{Costs, Figures, highRate, lowRate, visitCost, classesAt, classCost}
 use Rattle.totals.specs.declared.sums.Tariff.{Tariff}
 use Rattle.totals.specs.declared.sums.Sums.{Sums}
 
@@ -17,27 +20,27 @@ abbrev pub figuresOf : Tariff → List ℕ → List ℕ → Figures
 figuresOf tariff floors ceilings =
     record { costs = costsOf tariff; floors = floors; ceilings = ceilings }
 
--- The most that one node adds to a sum.
+-- The most that one touch adds to a sum.
 abbrev pub mostAdded : ℕ
 mostAdded = 65535 * 65535
 
--- Sums that so many nodes can have come to.
-pub record Small (nodes : ℕ) (sums : Sums) : Type 0 where
-  pub low-most : sums .low ≤ nodes * mostAdded
-  pub high-most : sums .high ≤ nodes * mostAdded
+-- Sums that so many touches can have come to.
+pub record Small (touches : ℕ) (sums : Sums) : Type 0 where
+  pub low-most : sums .low ≤ touches * mostAdded
+  pub high-most : sums .high ≤ touches * mostAdded
 
--- The sums with one node of a class added.
-abbrev pub nodeAdded : Costs → ℕ → ℕ → ℕ → Sums → Sums
-nodeAdded costs class floor ceiling sums =
+-- The sums with one touch of a class added.
+abbrev pub touchAdded : Costs → ℕ → ℕ → ℕ → Sums → Sums
+touchAdded costs class floor ceiling sums =
     record {
       low = sums .low + floor * classCost (lowRate costs) class;
       high = sums .high + ceiling * classCost (highRate costs) class;
     }
 
--- The sums over the first n nodes, which have these classes.
-abbrev pub sumsTo : Figures → List ℕ → ℕ → Sums
-sumsTo figures classes n =
+-- The sums over the first n nodes of a plan, by a table.
+abbrev pub sumsTo : Plan → List (Cell Ages) → Figures → ℕ → Sums
+sumsTo plan table figures n =
     record {
-      low = sumOf n (λ k. getD (figures .floors) k 0 * classCost (lowRate (figures .costs)) (getD classes k 0));
-      high = sumOf n (λ k. getD (figures .ceilings) k 0 * classCost (highRate (figures .costs)) (getD classes k 0));
+      low = sumOf n (λ k. getD (figures .floors) k 0 * visitCost (classesAt plan k) (lowRate (figures .costs)) (cellAt table k));
+      high = sumOf n (λ k. getD (figures .ceilings) k 0 * visitCost (classesAt plan k) (highRate (figures .costs)) (cellAt table k));
     }

@@ -11,7 +11,6 @@ use crate::bounds::first_crossed;
 use crate::bounds::first_floor_at_unmarked;
 use crate::sums::Tariff;
 use crate::sums::sum_nodes;
-use chart::Geometry;
 use chart::Verdict;
 use checker::Checked;
 use refusals::Refusal;
@@ -53,9 +52,7 @@ fn total_drawn(
     if unmarked < nodes {
         return Totals::Refused(Refusal::FloorAtUnmarked(unmarked));
     }
-    let mut classes = [0u8; Geometry::NODES];
-    classing::write_classes(columns, plan, must, may, marks, &mut classes);
-    let sums = sum_nodes(&classes, nodes, tariff, floors, ceilings);
+    let sums = sum_nodes(columns, plan, must, may, marks, tariff, floors, ceilings);
     Totals::Between {
         low: sums.low,
         high: sums.high,

@@ -1,12 +1,15 @@
-// Works out both sums over the nodes by their classes (rules 10.2 and 10.3). Callers keep that each node has a class, a floor and a ceiling, and
-// that there are no more nodes than a chart may have: then no sum overflows. Nothing is refused here.
+// Works out both sums over the nodes by their classes (rules 10.2 and 10.3). Callers keep that there is room for the table, and that each node has a
+// floor and a ceiling. No sum overflows, since there are no more nodes than a chart may have, and two touches of each at most. Nothing is refused here.
 ghost use mathlib.Core.Path.{_≡_};
-ghost use Prim.Native.Nat.{_≤_};
+ghost use Prim.Native.Nat.{_*_, _≤_};
 ghost use lib.ListN.{length};
-ghost use Rattle.chart.specs.Geometry.{mostNodes};
+ghost use Rattle.chart.specs.Geometry.{mostNodes, mostTouches};
+ghost use Rattle.plan.specs.Listed.{nodesIn, DrawnIn, planAt};
+ghost use Rattle.tables.specs.Lent.{tableOf};
+ghost use Rattle.tables.specs.Contract.{entryTable, RoomFor};
 ghost use Rattle.costs.specs.Costs.{lowRate, highRate};
 ghost use Rattle.totals.specs.Totals.{entryFigures};
-ghost use Rattle.totals.specs.Inner.{costsOf, Small, nodeAdded, sumsTo};
+ghost use Rattle.totals.specs.Inner.{costsOf, Small, touchAdded, sumsTo};
 
 // What a hit and what a miss cost.
 pub struct Tariff {
@@ -14,13 +17,13 @@ pub struct Tariff {
     pub miss: u16,
 }
 
-// The two sums so far, in u64. Neither overflows: Geometry::NODES products of two numbers of 16 bits are far below 2^64 (`Small`).
+// The two sums so far, in u64. Neither overflows: Geometry::CLASSES products of two numbers of 16 bits are far below 2^64 (`Small`).
 pub(crate) struct Sums {
     pub low: u64,
     pub high: u64,
 }
 
-// What the low total counts for a visit of a reference of this class: the miss cost for a miss, else the hit cost.
+// What the low total counts for a touch of this class: the miss cost for a miss, else the hit cost.
 fn low_rate(class: u8, tariff: Tariff) -> u16
     ensures { λ r. ⌜ r ≡ lowRate (costsOf tariff) class ⌝ }
 {
@@ -42,10 +45,10 @@ fn high_rate(class: u8, tariff: Tariff) -> u16
     }
 }
 
-// The sums with one node of this class added; a node that is not reached, and a bare step, hand them back.
-fn add_node(sums: Sums, class: u8, tariff: Tariff, floor: u16, ceiling: u16) -> Sums
-    requires { ⌜ Small mostNodes sums ⌝ }
-    ensures { λ r. ⌜ r ≡ nodeAdded (costsOf tariff) class floor ceiling sums ⌝ }
+// The sums with one touch of this class added; a node that is not reached, and a touch that is not made, hand them back.
+fn add_touch(sums: Sums, class: u8, tariff: Tariff, floor: u16, ceiling: u16) -> Sums
+    requires { ⌜ Small (mostTouches * mostNodes) sums ⌝ }
+    ensures { λ r. ⌜ r ≡ touchAdded (costsOf tariff) class floor ceiling sums ⌝ }
 {
     if (class == classing::UNREACHED) | (class == classing::NONE) {
         return sums;
@@ -58,21 +61,28 @@ fn add_node(sums: Sums, class: u8, tariff: Tariff, floor: u16, ceiling: u16) -> 
     }
 }
 
-// The sums over all nodes, which have these classes.
+// The sums over all nodes of a table, touch by touch.
 pub(crate) fn sum_nodes(
-    classes: &[u8],
-    nodes: usize,
+    columns: &[u8],
+    plan: &[u16],
+    must: &[u8],
+    may: &[u8],
+    marks: &[u8],
     tariff: Tariff,
     floors: &[u16],
     ceilings: &[u16],
 ) -> Sums
-    requires { ⌜ (nodes ≤ mostNodes) × (nodes ≤ length (now classes)) ⌝ }
-    requires { ⌜ (nodes ≤ length (now floors)) × (nodes ≤ length (now ceilings)) ⌝ }
-    ensures { λ r. ⌜ r ≡ sumsTo (entryFigures (tariff .hit) (tariff .miss) floors ceilings) (now (classes .entry)) nodes ⌝ }
+    requires { ⌜ DrawnIn columns plan ⌝ }
+    requires { ⌜ RoomFor plan must may marks ⌝ }
+    requires { ⌜ (nodesIn (now plan) ≤ length (now floors)) × (nodesIn (now plan) ≤ length (now ceilings)) ⌝ }
+    ensures { λ r. ⌜ r ≡ sumsTo (planAt columns plan) (tableOf (planAt columns plan) (entryTable must may marks)) (entryFigures (tariff .hit) (tariff .miss) floors ceilings) (nodesIn (now (plan .entry))) ⌝ }
 {
     let mut sums = Sums { low: 0, high: 0 };
+    let nodes = plan::nodes_in(plan);
     for n in 0..nodes {
-        sums = add_node(sums, classes[n], tariff, floors[n], ceilings[n]);
+        let both = classing::classes_at(columns, plan, must, may, marks, n);
+        let once = add_touch(sums, both.first, tariff, floors[n], ceilings[n]);
+        sums = add_touch(once, both.second, tariff, floors[n], ceilings[n]);
     }
     sums
 }

@@ -10,7 +10,7 @@ use charts::random::Random;
 use second::analysis::Analysed;
 use second::chart::Chart;
 use second::lending::Lending;
-use second::limits::PASSES;
+use second::limits::{PASSES, TOUCHES};
 
 pub fn case(random: &mut Random) -> Case {
     let bytes = inputs::bytes(random, 4);
@@ -21,14 +21,14 @@ pub fn case(random: &mut Random) -> Case {
         must: filled(around(random, nodes * blocks), fills[1]),
         may: filled(around(random, nodes * blocks), fills[2]),
         marks: filled(around(random, nodes), fills[3]),
-        classes: filled(around(random, nodes), fills[4]),
+        classes: filled(around(random, TOUCHES * nodes), fills[4]),
     };
     let allowance = allowance(random, &bytes);
     let analysed = lending.analyse(&bytes, allowance);
     let answer = answer(analysed);
     let wrote = !matches!(analysed, Analysed::Refused(_));
     let used = |needed| if wrote { needed } else { 0 };
-    let ages = nodes * blocks;
+    let (ages, classes) = (nodes * blocks, TOUCHES * nodes);
     Case {
         function: Function::Analyse,
         allowance: allowance as u64,
@@ -41,7 +41,7 @@ pub fn case(random: &mut Random) -> Case {
             Buffer::written(&lending.must, ages, used(ages), fills[1]),
             Buffer::written(&lending.may, ages, used(ages), fills[2]),
             Buffer::written(&lending.marks, nodes, used(nodes), fills[3]),
-            Buffer::written(&lending.classes, nodes, used(nodes), fills[4]),
+            Buffer::written(&lending.classes, classes, used(classes), fills[4]),
             answer.told(random),
         ],
     }

@@ -1,6 +1,7 @@
 //! So that a run is no idle one: what the first cases of the gate's file have among them.
 
 use calls::{Case, Function, SEED};
+use charts::sizes::size_alone;
 use charts::twins::{record_of, twins_alone};
 use second::chart::Chart;
 use std::collections::BTreeMap;
@@ -45,17 +46,26 @@ fn each_function_gives_each_of_its_refusals_and_no_other() {
     }
 }
 
+/// Holds each function to refusing such records, in a chart of so many nodes, so often.
+fn each_function_refuses(least: usize, fault: fn([u8; 8], usize) -> bool) {
+    let faulty = |case: &Case| {
+        let chart = case.buffers[0].elements::<u8>();
+        Chart::read(&chart)
+            .is_err_and(|refusal| refusal.number == 9 && fault(record_of(&chart, refusal.place), chart.len() / 8 - 1))
+    };
+    let refused = cases().filter(|case| case.returned == 9 && faulty(case));
+    let met = tally(refused.map(|case| case.function));
+    assert!(met.len() == 4 && met.values().all(|&times| times >= least), "{met:?}");
+}
+
 #[test]
 fn each_function_refuses_two_arrows_to_one_node() {
-    let twins = |case: &Case| {
-        let chart = case.buffers[0].elements::<u8>();
-        Chart::read(&chart).is_err_and(|refusal| {
-            refusal.number == 9 && twins_alone(record_of(&chart, refusal.place), chart.len() / 8 - 1)
-        })
-    };
-    let refused = cases().filter(|case| case.returned == 9 && twins(case));
-    let met = tally(refused.map(|case| case.function));
-    assert!(met.len() == 4 && met.values().all(|&times| times >= 20), "{met:?}");
+    each_function_refuses(20, twins_alone);
+}
+
+#[test]
+fn each_function_refuses_a_record_for_its_size() {
+    each_function_refuses(10, size_alone);
 }
 
 /// The buffers that refusal 11 speaks of, by their places among the parameters.

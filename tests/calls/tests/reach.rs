@@ -3,7 +3,7 @@
 use calls::{Case, Function, SEED};
 use charts::random_edges::EDGES;
 use second::chart::Chart;
-use second::limits::BLOCKS;
+use second::limits::{BLOCKS, TOUCHES};
 
 fn cases() -> impl Iterator<Item = Case> {
     (0..20_000).map(|number| calls::case(SEED, number))
@@ -19,6 +19,18 @@ fn most_nodes_of_what_is_analysed_are_reached() {
         marked += used.iter().filter(|&&mark| mark == 1).count();
     }
     assert!(10 * marked >= 7 * nodes, "{marked} of {nodes} nodes are reached");
+}
+
+#[test]
+fn second_touches_of_what_is_analysed_have_every_class() {
+    let mut times = [0; 5];
+    for case in cases().filter(|case| case.function == Function::Analyse && case.returned == 0) {
+        let classes = case.buffers[5].elements::<u8>();
+        for both in classes[..case.buffers[5].needed].chunks(TOUCHES) {
+            times[usize::from(both[1])] += 1;
+        }
+    }
+    assert!(times.iter().all(|&times| times >= 100), "{times:?}");
 }
 
 #[test]

@@ -28,11 +28,15 @@ impl Chart {
 
     /// The same with an arrow from each node to the next.
     pub fn straight(addresses: &[u64]) -> Chart {
-        let mut chart = Chart::reads(addresses);
-        for node in 1..addresses.len() {
-            chart.records[node - 1] = chart.records[node - 1].to(node as u64);
+        Chart::reads(addresses).in_a_row()
+    }
+
+    /// The same chart with one arrow more from each node to the next.
+    pub fn in_a_row(mut self) -> Chart {
+        for node in 1..self.records.len() {
+            self.records[node - 1] = self.records[node - 1].to(node as u64);
         }
-        chart
+        self
     }
 
     /// The same chart in a cache of 2^`sets` sets of so many ways, from such a start.

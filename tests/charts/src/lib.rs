@@ -1,7 +1,7 @@
 //! Charts as bytes: the fields of rules 1.2 and 2.1 as plain numbers, allowed or not, and their packing.
 //!
-//! Nothing here but the random charts, the slowest ones, and `twins`, which asks the second program, knows which values are allowed, so that a
-//! test can build any damage it likes.
+//! Nothing here but the random charts, the slowest ones, and `twins` and `sizes`, which ask the second program, knows which values are allowed,
+//! so that a test can build any damage it likes.
 
 mod chart;
 mod header;
@@ -15,7 +15,9 @@ mod random_damage;
 pub mod random_edges;
 mod random_loose;
 mod random_reached;
+mod random_reference;
 mod record;
+pub mod sizes;
 pub mod slowest;
 pub mod twins;
 

@@ -1,7 +1,7 @@
 //! Damage to a chart.
 
 use crate::random::Random;
-use crate::{Chart, Header};
+use crate::{Chart, Header, Record};
 
 const NODES: u64 = second::limits::NODES as u64;
 
@@ -43,19 +43,28 @@ fn damage_header(random: &mut Random, header: &mut Header) {
     }
 }
 
-/// Gives one field of one record any value that it can hold, or has its two arrows lead to one node.
+/// Gives one field of one record any value that it can hold, or breaks the rules of sizes or of two arrows.
 fn damage_record(random: &mut Random, chart: &mut Chart) {
     let nodes = chart.records.len() as u64;
     let record = &mut chart.records[random.below(nodes) as usize];
-    match random.below(8) {
+    match random.below(11) {
         0 => record.kind = random.below(4),
         1 => record.address = random.below(1 << 32),
         2 => record.outs = random.below(4),
         3 => record.first = random.within(nodes - 1, nodes + 1),
         4 => record.second = random.within(nodes - 1, nodes + 1),
-        5 => record.spare = random.below(16),
+        // the first code that there is not, or any
+        5 if random.once_in(2) => record.size = 3,
+        5 => record.size = random.below(16),
+        // a step has no size
+        6 => *record = record.doing(Record::step().sized(random.within(1, 15))),
+        // up to the last byte that there is, and perhaps past it
+        7 => {
+            let size = random.within(1, 2);
+            *record = record.doing(Record::read((1 << 32) - random.within(1, 1 << size)).sized(size));
+        }
         // a label typed twice: where the first arrow leads, or to any node
-        6 => *record = record.twins(record.first),
+        8 => *record = record.twins(record.first),
         _ => *record = record.twins(random.below(nodes)),
     }
 }

@@ -2,7 +2,9 @@
 
 use crate::random::Random;
 use crate::random_reached::reached_with;
-use crate::Chart;
+use crate::sizes::touched_before;
+use crate::{Chart, Record};
+use std::collections::BTreeSet;
 
 const NODES: u64 = second::limits::NODES as u64;
 const BLOCKS: u64 = second::limits::BLOCKS as u64;
@@ -22,5 +24,45 @@ pub fn at_an_edge(random: &mut Random) -> Chart {
         2..=6 => least,
         _ => least + random.within(1, 12),
     };
+    if blocks > 2 && random.once_in(4) {
+        return over_an_end(random, nodes, blocks);
+    }
     reached_with(random, nodes, blocks)
+}
+
+/// Such a chart whose last node goes over the end of a line, and so brings the last block, or the last two at once.
+fn over_an_end(random: &mut Random, nodes: u64, blocks: u64) -> Chart {
+    let fresh = random.within(1, 2);
+    let mut chart = reached_with(random, nodes - 1, blocks - fresh);
+    let touched = touched_before(&chart.bytes(), chart.records.len());
+    let line = chart.header.line;
+    let lower = loop {
+        let lower = beside(random, line, &touched, fresh);
+        let new = [lower, lower + 1].into_iter().filter(|block| !touched.contains(block));
+        if new.count() as u64 == fresh {
+            break u64::from(lower);
+        }
+    };
+    let mut open: Vec<&mut Record> = chart.records.iter_mut().filter(|record| record.outs < 2).collect();
+    if !open.is_empty() {
+        let from = random.below(open.len() as u64) as usize;
+        *open[from] = open[from].to(nodes - 1);
+    }
+    let size = random.within(1, 2);
+    let address = ((lower + 1) << line) - random.within(1, (1 << size) - 1);
+    let last = Record::read(address).sized(size).to(chart.header.entry);
+    chart.records.push(last);
+    chart.header.nodes = nodes;
+    chart
+}
+
+/// Any block that has a next one; where one new block is looked for, a block of the chart or the one before it.
+fn beside(random: &mut Random, line: u64, touched: &BTreeSet<u32>, fresh: u64) -> u32 {
+    let last = u32::MAX >> line;
+    if fresh == 2 {
+        return random.below(last.into()) as u32;
+    }
+    let place = random.below(touched.len() as u64) as usize;
+    let block = touched.iter().nth(place).expect("there are so many");
+    block.saturating_sub(random.below(2) as u32).min(last - 1)
 }

@@ -1,6 +1,7 @@
 //! Loose charts: blocks and arrows anywhere. Few nodes are reached and blocks seldom meet, so that much is unreached or alone.
 
 use crate::random::Random;
+use crate::random_reference::{reference, Sizes};
 use crate::{Chart, Header, Record};
 
 const BLOCKS: u64 = second::limits::BLOCKS as u64;
@@ -21,11 +22,12 @@ pub fn loose(random: &mut Random, nodes: u64) -> Chart {
         _ => Course::Back,
     };
     let header = header(random, nodes, course);
+    let sizes = Sizes::of_a_chart(random);
     let pool = pool(random, header.line);
     let mut fresh = 0;
     let records = (0..nodes)
         .map(|node| {
-            let record = record(random, &pool, &mut fresh);
+            let record = record(random, header.line, &pool, sizes, &mut fresh);
             with_arrows(random, record, node, nodes, course)
         })
         .collect();
@@ -53,8 +55,8 @@ fn header(random: &mut Random, nodes: u64, course: Course) -> Header {
     }
 }
 
-/// The first addresses of the blocks that a chart may touch. Often they are few, so that one is touched again soon, and often they
-/// number about the most, to come near the limit from both sides.
+/// The blocks that a chart may touch. Often they are few, so that one is touched again soon, and often they number about the most, to come
+/// near the limit from both sides. One is anywhere, at an end of the memory, or behind the one before it.
 fn pool(random: &mut Random, line: u64) -> Vec<u64> {
     let size = match random.below(5) {
         0 | 1 => random.within(1, 5),
@@ -62,24 +64,34 @@ fn pool(random: &mut Random, line: u64) -> Vec<u64> {
         3 => random.within(BLOCKS - 1, BLOCKS + 2),
         _ => random.within(1, 100),
     };
-    (0..size).map(|_| random.below(1 << 32) >> line << line).collect()
+    let last = (1 << (32 - line)) - 1;
+    let mut pool = vec![];
+    while (pool.len() as u64) < size {
+        let block = match (random.below(12), pool.last()) {
+            (0, _) => 0,
+            (1, _) => last,
+            (2..=5, Some(&before)) if before < last => before + 1,
+            _ => random.within(0, last),
+        };
+        if !pool.contains(&block) {
+            pool.push(block);
+        }
+    }
+    pool
 }
 
-/// A record that keeps its rules, without arrows. It takes the pool's next block, or now and then any of it, and any byte of the
-/// block's first four.
-fn record(random: &mut Random, pool: &[u64], fresh: &mut usize) -> Record {
+/// A record that keeps its rules, without arrows. It takes the pool's next block, or now and then any of it.
+fn record(random: &mut Random, line: u64, pool: &[u64], sizes: Sizes, fresh: &mut usize) -> Record {
     let block = if random.once_in(4) {
         random.below(pool.len() as u64) as usize
     } else {
         *fresh += 1;
         (*fresh - 1) % pool.len()
     };
-    let address = pool[block] + random.below(4);
-    match random.below(10) {
-        0 => Record::step(),
-        1..=6 => Record::read(address),
-        _ => Record::write(address),
+    if random.once_in(10) {
+        return Record::step();
     }
+    reference(random, line, pool[block], pool, sizes)
 }
 
 /// The record with up to two arrows, to different nodes. Off the course they lead anywhere, to the last node more often than to others.

@@ -3,6 +3,7 @@
 use crate::random::Random;
 use crate::random_arrows::{arrows, Arrows};
 use crate::random_crowds::{crowd, different, just, neighbours};
+use crate::random_reference::{reference, with_next, Sizes};
 use crate::{Chart, Header, Record};
 
 const BLOCKS: u64 = second::limits::BLOCKS as u64;
@@ -11,22 +12,28 @@ const WAYS: u64 = second::limits::WAYS as u64;
 /// A chart of so many nodes, most of them reached, with no fault but perhaps a block too many.
 pub fn reached(random: &mut Random, nodes: u64) -> Chart {
     let header = header(random, nodes);
-    let mut blocks = match random.below(12) {
+    let sizes = Sizes::of_a_chart(random);
+    let blocks = match random.below(12) {
         0 => about_the_most(random, &header),
         1..=3 => neighbours(random, &header),
         4..=6 => [neighbours(random, &header), crowd(random, &header)].concat(),
         _ => crowd(random, &header),
     };
+    let mut blocks = match sizes {
+        Sizes::Any if blocks.len() < BLOCKS as usize / 2 => with_next(random, header.line, blocks),
+        _ => blocks,
+    };
     random.mix(&mut blocks);
-    chart(random, header, different(blocks))
+    chart(random, header, different(blocks), sizes)
 }
 
 /// Such a chart with just so many blocks, which cannot be more than there are nodes.
 pub fn reached_with(random: &mut Random, nodes: u64, blocks: u64) -> Chart {
     assert!(blocks <= nodes, "{nodes} nodes have no {blocks} blocks");
     let header = header(random, nodes);
+    let sizes = Sizes::of_a_chart(random);
     let blocks = just(random, &header, blocks as usize);
-    chart(random, header, blocks)
+    chart(random, header, blocks, sizes)
 }
 
 /// As many blocks as a chart may have, about, or as there are nodes to touch them.
@@ -48,23 +55,24 @@ fn header(random: &mut Random, nodes: u64) -> Header {
     }
 }
 
-/// A chart that touches these blocks, as many of them as there are nodes, and no other.
-fn chart(random: &mut Random, mut header: Header, mut blocks: Vec<u64>) -> Chart {
+/// A chart that touches these blocks and no other: all of them where there are as many nodes.
+fn chart(random: &mut Random, mut header: Header, blocks: Vec<u64>, sizes: Sizes) -> Chart {
     let nodes = header.nodes as usize;
     let Arrows { order, targets } = arrows(random, header.nodes);
     header.entry = order[0];
-    blocks.truncate(nodes);
-    let touched = touched(random, nodes, &blocks);
+    let touched = touched(random, nodes, &blocks[..blocks.len().min(nodes)]);
     let mut records = vec![Record::step(); nodes];
     for (&node, block) in order.iter().zip(touched) {
-        let record = block.map_or(Record::step(), |block| reference(random, header.line, block));
+        let record = block.map_or(Record::step(), |block| {
+            reference(random, header.line, block, &blocks, sizes)
+        });
         let targets = &targets[node as usize];
         records[node as usize] = targets.iter().fold(record, |record, &target| record.to(target));
     }
     Chart { header, records }
 }
 
-/// Which block is touched at each place of the order. Each block has a place of its own, one of the first or any; at the others stands one
+/// Which block is touched first at each place of the order. Each block has a place of its own, one of the first or any; at the others stands one
 /// of the last few again, the next in turn, any, or none.
 fn touched(random: &mut Random, nodes: usize, blocks: &[u64]) -> Vec<Option<u64>> {
     let mut own: Vec<Option<u64>> = blocks.iter().map(|&block| Some(block)).collect();
@@ -86,22 +94,4 @@ fn touched(random: &mut Random, nodes: usize, blocks: &[u64]) -> Vec<Option<u64>
         };
     }
     own
-}
-
-/// A read or a write of a byte of a block: the first, the last, the two in the middle, any.
-fn reference(random: &mut Random, line: u64, block: u64) -> Record {
-    let half = 1 << (line - 1);
-    let byte = match random.below(5) {
-        0 => 0,
-        1 => 2 * half - 1,
-        2 => half - 1,
-        3 => half,
-        _ => random.below(2 * half),
-    };
-    let address = block << line | byte;
-    if random.once_in(3) {
-        Record::write(address)
-    } else {
-        Record::read(address)
-    }
 }

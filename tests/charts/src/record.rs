@@ -9,7 +9,8 @@ pub struct Record {
     pub outs: u64,
     pub first: u64,
     pub second: u64,
-    pub spare: u64,
+    /// The size code.
+    pub size: u64,
 }
 
 impl Record {
@@ -20,7 +21,7 @@ impl Record {
             outs: 0,
             first: 0,
             second: 0,
-            spare: 0,
+            size: 0,
         }
     }
 
@@ -29,14 +30,29 @@ impl Record {
         Record::of(0, 0)
     }
 
-    /// A read without arrows.
+    /// A read of one byte without arrows.
     pub fn read(address: u64) -> Record {
         Record::of(1, address)
     }
 
-    /// A write without arrows.
+    /// A write of one byte without arrows.
     pub fn write(address: u64) -> Record {
         Record::of(2, address)
+    }
+
+    /// The same with such a size code: 0 is one byte, 1 two, 2 four.
+    pub fn sized(self, size: u64) -> Record {
+        Record { size, ..self }
+    }
+
+    /// The same arrows with what another record does.
+    pub fn doing(self, other: Record) -> Record {
+        Record {
+            outs: self.outs,
+            first: self.first,
+            second: self.second,
+            ..other
+        }
     }
 
     /// The same with one arrow more.
@@ -86,7 +102,7 @@ impl Record {
             outs: take(2),
             first: take(12),
             second: take(12),
-            spare: take(4),
+            size: take(4),
         }
     }
 
@@ -97,7 +113,7 @@ impl Record {
             (2, self.outs),
             (12, self.first),
             (12, self.second),
-            (4, self.spare),
+            (4, self.size),
         ])
     }
 }
@@ -114,7 +130,7 @@ mod tests {
             outs: 0b01,
             first: 0xABC,
             second: 0xDEF,
-            spare: 0x5,
+            size: 0x5,
         };
         assert_eq!(record.bytes(), [0xA0, 0x00, 0x00, 0x00, 0x5A, 0xBC, 0xDE, 0xF5]);
         assert_eq!(Record::of_bytes(record.bytes()), record);

@@ -1,8 +1,9 @@
-//! So that what is drawn is not idle: how many nodes of random charts are reached, and that an edge is one.
+//! So that what is drawn is not idle: how many nodes of random charts are reached, how many touch two blocks, and that an edge is one.
 
 use charts::random::Random;
 use charts::random_charts::whole;
 use charts::random_edges::{at_an_edge, EDGES};
+use charts::sizes::touched_before;
 use second::chart::Chart;
 use second::lending::Lending;
 use second::limits::{BLOCKS, PASSES};
@@ -55,4 +56,58 @@ fn charts_at_an_edge_have_just_so_many_blocks() {
     }
     assert_eq!(times.keys().copied().collect::<Vec<u64>>(), EDGES);
     assert!(times.values().all(|&times| times >= 50), "{times:?}");
+}
+
+#[test]
+fn many_nodes_touch_two_blocks_and_many_charts_have_none_that_does() {
+    let mut random = Random::new(4);
+    let (mut charts, mut without, mut all, mut two) = (0, 0, 0, 0);
+    for _ in 0..2_000 {
+        let Ok(chart) = Chart::read(&whole(&mut random).bytes()) else {
+            continue;
+        };
+        let making = |touch: usize| chart.nodes.iter().filter(|node| node.touches[touch].is_some()).count();
+        charts += 1;
+        without += usize::from(making(1) == 0);
+        all += making(0);
+        two += making(1);
+    }
+    assert!(12 * two >= all, "{two} of {all} references touch two blocks");
+    assert!(
+        3 * without >= charts,
+        "of {charts} charts {without} have no node that does"
+    );
+}
+
+#[test]
+fn references_of_more_than_a_byte_come_to_both_ends() {
+    let mut random = Random::new(5);
+    let (mut first, mut last) = (0, 0);
+    for _ in 0..2_000 {
+        let records = whole(&mut random).records;
+        let longer = || records.iter().filter(|record| record.size > 0);
+        first += usize::from(longer().any(|record| record.address == 0));
+        last += usize::from(longer().any(|record| record.address + (1 << record.size) == 1 << 32));
+    }
+    assert!(
+        first >= 100 && last >= 100,
+        "{first} begin with the first byte, {last} end with the last"
+    );
+}
+
+#[test]
+fn one_node_often_brings_the_last_block_that_fits_and_one_too_many() {
+    let mut random = Random::new(6);
+    let (mut refused, mut both) = (0, 0);
+    for _ in 0..2_000 {
+        let bytes = at_an_edge(&mut random).bytes();
+        if let Err(refusal) = Chart::read(&bytes) {
+            refused += 1;
+            both += usize::from(touched_before(&bytes, refusal.place).len() == BLOCKS - 1);
+        }
+    }
+    assert!(
+        16 * both >= refused && 2 * both <= refused,
+        "{both} of {refused} refused charts"
+    );
 }

@@ -37,12 +37,12 @@ pub const END: [&str; 5] = [
 pub fn count(tally: &mut Tally, bytes: &[u8], chart: &Chart, tightest: &Table) {
     let marked = |&node: &usize| tightest.marks[node] == 1;
     let nodes: Vec<usize> = (0..chart.nodes.len()).filter(marked).collect();
-    let mut columns: Vec<usize> = nodes.iter().filter_map(|&node| chart.nodes[node].block).collect();
+    let mut columns: Vec<usize> = nodes.iter().flat_map(|&node| chart.nodes[node].touched()).collect();
     columns.sort_unstable();
     columns.dedup();
     sets(tally, chart, &columns);
     ages(tally, chart, tightest);
-    let references = nodes.iter().filter(|&&node| chart.nodes[node].block.is_some());
+    let references = nodes.iter().filter(|&&node| chart.nodes[node].touches[0].is_some());
     let mut addresses: Vec<u32> = references.map(|&node| address(bytes, node)).collect();
     addresses.sort_unstable();
     one_bit(tally, chart, &columns, &addresses);

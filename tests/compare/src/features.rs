@@ -3,13 +3,14 @@
 use crate::tally::Tally;
 use second::chart::Chart;
 use second::header::Start;
-use second::limits::WAYS;
+use second::limits::{TOUCHES, WAYS};
 use veilbuzz::Settled;
 
 pub const NODES: &str = "nodes";
 pub const BLOCKS: &str = "blocks";
 pub const PASSES: &str = "passes";
-pub const CLASS: &str = "class";
+/// Charts by the class of a first touch, and of a second.
+pub const CLASS: [&str; TOUCHES] = ["class of a first touch", "class of a second touch"];
 /// Charts by how many tenths of their nodes are reached.
 pub const REACHED: &str = "tenths of the nodes reached";
 pub const GEOMETRY: &str = "geometry and start";
@@ -47,8 +48,8 @@ pub fn count(tally: &mut Tally, bytes: &[u8], chart: &Chart, settled: Settled, c
     tally.at(BLOCKS, chart.blocks.len());
     tally.at(PASSES, settled.passes);
     tally.at(GEOMETRY, geometry(chart));
-    let reached = classes.iter().filter(|&&class| class != 0).count();
-    tally.at(REACHED, 10 * reached / classes.len());
+    let reached = classes.chunks(TOUCHES).filter(|both| both[0] != 0).count();
+    tally.at(REACHED, 10 * reached / chart.nodes.len());
     let targets = |node: usize| chart.nodes[node].arrows.targets();
     let any = |like: &dyn Fn(usize) -> bool| (0..chart.nodes.len()).any(like);
     let entry = chart.header.entry;
@@ -66,9 +67,13 @@ pub fn count(tally: &mut Tally, bytes: &[u8], chart: &Chart, settled: Settled, c
     for (has, like) in has.into_iter().zip(LIKE) {
         tally.add_if(has, like);
     }
-    for class in 0..=4 {
-        if classes.contains(&class) {
-            tally.at(CLASS, class.into());
+    for (touch, word) in CLASS.into_iter().enumerate() {
+        let mut met = [false; 5];
+        for both in classes.chunks(TOUCHES) {
+            met[usize::from(both[touch])] = true;
+        }
+        for class in (0..met.len()).filter(|&class| met[class]) {
+            tally.at(word, class);
         }
     }
 }

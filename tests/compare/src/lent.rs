@@ -2,6 +2,7 @@ use crate::guarded::{byte, word, Guarded};
 use crate::same::Held;
 use charts::random::Random;
 use second::analysis;
+use second::limits::TOUCHES;
 
 /// The lengths of the five buffers: blocks, must, may, marks, classes.
 pub type Lengths = [usize; 5];
@@ -10,7 +11,7 @@ pub const NAMES: [&str; 5] = ["blocks", "must", "may", "marks", "classes"];
 
 /// What the analysis uses of each.
 pub fn used(nodes: usize, blocks: usize) -> Lengths {
-    [blocks, nodes * blocks, nodes * blocks, nodes, nodes]
+    [blocks, nodes * blocks, nodes * blocks, nodes, TOUCHES * nodes]
 }
 
 /// The five buffers that an analysis is lent.

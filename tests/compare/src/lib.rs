@@ -17,6 +17,8 @@ pub mod run;
 pub mod same;
 pub mod settings;
 pub mod shown;
+pub mod sizes;
+pub mod straddles;
 pub mod table;
 pub mod tables;
 pub mod tally;

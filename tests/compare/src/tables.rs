@@ -151,11 +151,12 @@ fn node_with(random: &mut Random, table: &Table, mark: u8) -> Option<usize> {
     (!nodes.is_empty()).then(|| nodes[random.below(nodes.len() as u64) as usize])
 }
 
-/// Any place of a node's row. Often it is that of the node's own block, which its class goes by.
+/// Any place of a node's row. Often it is that of one of the node's own blocks, which its classes go by.
 fn cell_of(random: &mut Random, chart: &Chart, node: usize) -> Option<usize> {
     let blocks = chart.blocks.len();
     let any = (blocks > 0).then(|| random.below(blocks as u64) as usize)?;
-    let own = chart.nodes[node].block.filter(|_| random.once_in(2));
+    let touches = chart.nodes[node].touches;
+    let own = touches[random.below(touches.len() as u64) as usize].filter(|_| random.once_in(2));
     Some(node * blocks + own.unwrap_or(any))
 }
 

@@ -8,6 +8,8 @@ use crate::features;
 use crate::lent::{used, Lent};
 use crate::raw;
 use crate::same::{holds, Held};
+use crate::sizes;
+use crate::straddles;
 use crate::table::{LentTable, Table};
 use crate::tables::{almost, never, noise, passing, NOISE};
 use crate::tally::{Tally, CHART};
@@ -15,7 +17,7 @@ use crate::twins;
 use crate::walks;
 use charts::random::Random;
 use second::chart::Chart;
-use veilbuzz::{Header, PASSES};
+use veilbuzz::{Header, PASSES, TOUCHES};
 
 /// How many faults the totals were asked with at once.
 pub const FAULTS: &str = "faults of a question to the totals";
@@ -29,6 +31,7 @@ pub fn trial(random: &mut Random, tally: &mut Tally, chart: &[u8]) -> Held {
         Ok(header) => accepted(random, tally, chart, header),
         Err(refusal) => {
             twins::count(tally, chart, refusal);
+            sizes::count(tally, chart, refusal);
             refused(random, tally, chart)
         }
     }
@@ -59,7 +62,8 @@ fn accepted(random: &mut Random, tally: &mut Tally, bytes: &[u8], header: Header
     let lent = Lent::of(random, lengths);
     let (answer, ours) = ask::analyse(tally, bytes, PASSES, &lent)?;
     let settled = answer.map_err(|refusal| format!("not settled: {refusal}"))?;
-    features::count(tally, bytes, &chart, settled, &ours.classes.lent()[..header.nodes]);
+    let classes = &ours.classes.lent()[..TOUCHES * header.nodes];
+    features::count(tally, bytes, &chart, settled, classes);
 
     for _ in 0..2 {
         let lengths = if random.once_in(2) {
@@ -76,6 +80,7 @@ fn accepted(random: &mut Random, tally: &mut Tally, bytes: &[u8], header: Header
     }
     let tightest = Table::written(&ours, header.nodes, header.blocks);
     crowds::count(tally, bytes, &chart, &tightest);
+    straddles::count(tally, bytes, &chart, &tightest, classes);
     let tables = check_tables(random, tally, bytes, &chart, tightest)?;
     for _ in 0..2 {
         question(random, tally, bytes, &chart, &tables)?;

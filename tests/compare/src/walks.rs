@@ -10,11 +10,15 @@ use charts::random::Random;
 use second::cache::Cache;
 use second::chart::Chart;
 use second::header::Start;
+use second::limits::TOUCHES;
 use veilbuzz::{Costs, Totals};
 
-/// How what walks meet is counted: nodes by their class, walks by whether all their references are sure.
-pub const MET: &str = "a walk meets class";
-pub const SURE: &str = "a walk without an unsure reference";
+/// How what walks meet is counted: first and second touches by their class, walks by whether all their touches are sure.
+pub const MET: [&str; TOUCHES] = [
+    "a walk makes a first touch of class",
+    "a walk makes a second touch of class",
+];
+pub const SURE: &str = "a walk without an unsure touch";
 pub const WALK: &str = "a walk from start";
 
 /// A cache as a walk may find it: empty, or with any blocks, also some that the chart does not have.
@@ -47,7 +51,7 @@ fn walk(random: &mut Random, chart: &Chart) -> Vec<usize> {
     nodes
 }
 
-/// Walks on what the archive's analysis has written. What the walk costs, and whether all its references are sure.
+/// Walks on what the archive's analysis has written, touch by touch. What the walk costs, and whether all its touches are sure.
 fn pay(
     tally: &mut Tally,
     chart: &Chart,
@@ -68,15 +72,21 @@ fn pay(
                 format!("at node {node} block {block} has age {age}, and may {may} and must {must}")
             })?;
         }
-        let class = ours.classes.lent()[node];
-        paid += match (cache.visit(chart, node), class) {
-            (None, 4) => 0,
-            (Some(true), 1 | 3) => u64::from(costs.hit),
-            (Some(false), 2 | 3) => u64::from(costs.miss),
-            (hit, class) => return Err(format!("at node {node} of class {class} a walk finds {hit:?}")),
-        };
-        sure &= class != 3;
-        tally.at(MET, class.into());
+        for (touch, hit) in cache.visit(chart, node).into_iter().enumerate() {
+            let class = ours.classes.lent()[TOUCHES * node + touch];
+            paid += match (hit, class) {
+                (None, 4) => 0,
+                (Some(true), 1 | 3) => u64::from(costs.hit),
+                (Some(false), 2 | 3) => u64::from(costs.miss),
+                (hit, class) => {
+                    return Err(format!(
+                        "at touch {touch} of node {node}, of class {class}, a walk finds {hit:?}"
+                    ))
+                }
+            };
+            sure &= class != 3;
+            tally.at(MET[touch], class.into());
+        }
     }
     Ok((paid, sure))
 }

@@ -30,7 +30,7 @@ pub fn report(name: &str) -> String {
     text(&format!("{name}.report"))
 }
 
-/// What a report says of each node in turn, or a refusal's one line.
+/// What a report says of each node in turn, or a refusal's one line. The word of a second touch is left out where there is none.
 pub fn words(report: &str) -> Vec<&str> {
     let mut lines = report.lines();
     let first = lines.next().expect("a report has a line");
@@ -38,7 +38,11 @@ pub fn words(report: &str) -> Vec<&str> {
         return vec![first];
     }
     lines
-        .map(|line| line.split_once(' ').expect("a node has a word").1)
+        .map(|line| line.split_once(' ').expect("a node has words").1)
+        .map(|words| match words.split_once(' ').expect("a node has two words") {
+            (first, "none" | "unreached") => first,
+            _ => words,
+        })
         .collect()
 }
 

@@ -127,6 +127,46 @@ fn a_block_is_as_long_as_a_line() {
 }
 
 #[test]
+fn a_reference_over_the_end_of_a_line_brings_two_blocks() {
+    for line in 2..=8 {
+        let end = 5 << line;
+        for (size, bytes) in [(0, 1), (1, 2), (2, 4)] {
+            for less in 1..=4 {
+                let mut chart = Chart::of(vec![Record::read(end - less).sized(size)]);
+                chart.header.line = line;
+                accepts(&chart.bytes(), 1, if bytes > less { 2 } else { 1 });
+            }
+        }
+    }
+}
+
+/// Reads of so many blocks from block 100 on, then one that begins in this block and goes into the next, then a step.
+fn then_both(reads: usize, lower: u64) -> Chart {
+    let mut records: Vec<Record> = (0..reads as u64)
+        .map(|block| Record::read((100 + block) * 16))
+        .collect();
+    records.extend([Record::read(lower * 16 + 15).sized(1), Record::step()]);
+    Chart::of(records).in_a_row()
+}
+
+#[test]
+fn one_node_may_bring_the_last_two_blocks_and_is_told_where_the_second_is_one_too_many() {
+    accepts(&then_both(BLOCKS - 2, 0).bytes(), BLOCKS, BLOCKS);
+    overfull(&then_both(BLOCKS - 1, 0), BLOCKS - 1);
+    overfull(&then_both(BLOCKS, 0), BLOCKS);
+}
+
+#[test]
+fn of_two_blocks_only_the_one_that_is_new_counts() {
+    let last = 99 + BLOCKS as u64;
+    accepts(&then_both(BLOCKS, 100).bytes(), BLOCKS + 2, BLOCKS);
+    accepts(&then_both(BLOCKS - 1, last - 1).bytes(), BLOCKS + 1, BLOCKS);
+    accepts(&then_both(BLOCKS - 1, 99).bytes(), BLOCKS + 1, BLOCKS);
+    overfull(&then_both(BLOCKS, last), BLOCKS);
+    overfull(&then_both(BLOCKS, 99), BLOCKS);
+}
+
+#[test]
 fn longer_lines_bring_too_many_blocks_back_under_the_limit() {
     let mut chart = Chart::straight(&ascending(BLOCKS + 1));
     chart.header.line = 5;

@@ -94,7 +94,7 @@ fn the_charts_of_the_rules_have_their_bytes_and_their_classes() {
     for ((name, expected), said) in of_the_rules().into_iter().zip(SAID) {
         let [first, second, third] = said;
         let blocks = if name == "loop" { 1 } else { 2 };
-        let whole = format!("nodes 3 blocks {blocks} passes 2\n0 {first}\n1 {second}\n2 {third}\n");
+        let whole = format!("nodes 3 blocks {blocks} passes 2\n0 {first} none\n1 {second} none\n2 {third} none\n");
         assert_eq!(chart(name), expected.bytes(), "{name}");
         assert_eq!(report(name), whole, "{name}");
     }

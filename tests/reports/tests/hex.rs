@@ -64,10 +64,11 @@ fn header(words: &str) -> Header {
     }
 }
 
-/// The node and the record that words speak of, as '1 read 0x10 -> 1 and 2', up to a colon.
+/// The node and the record that words speak of, as '1 read 0x10 -> 1 and 2' or '0 write 0x0E, 4 bytes', up to a colon.
 fn record(words: &str) -> (usize, Record) {
     let facts = words.split_once(':').map_or(words, |(facts, _)| facts);
     let (own, arrows) = facts.split_once("->").unwrap_or((facts, ""));
+    let (own, bytes) = own.split_once(", ").unwrap_or((own, "1 byte"));
     let own: Vec<&str> = own.split_whitespace().collect();
     let address = || {
         let digits = own[2].strip_prefix("0x").expect("an address begins with 0x");
@@ -80,6 +81,7 @@ fn record(words: &str) -> (usize, Record) {
         kind => panic!("not a kind: '{kind}'"),
     };
     let targets = arrows.split(" and ").filter(|target| !target.trim().is_empty());
+    let bare = bare.sized(exponent(number(bytes)));
     let record = targets.fold(bare, |record, target| record.to(number(target)));
     (number(own[0]) as usize, record)
 }

@@ -81,7 +81,7 @@ fn the_endless_sources_of_the_machine_get_an_answer() {
 #[test]
 fn pauses_change_nothing_and_get_no_answer_before_the_end() {
     let mut broken = Chart::sample();
-    broken.records[1].spare = 1;
+    broken.records[1].size = 3;
     each(&[Chart::sample().bytes(), broken.bytes()], |bytes| {
         let mut child = start(command());
         for part in [&bytes[..0], &bytes[..3], &bytes[3..8], &bytes[8..21], &bytes[21..]] {

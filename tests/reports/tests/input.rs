@@ -54,7 +54,7 @@ fn what_stands_past_the_bytes_that_are_taken_changes_nothing() {
 #[test]
 fn an_input_that_comes_in_single_bytes_is_read_whole() {
     let mut broken = Chart::sample();
-    broken.records[2].spare = 1;
+    broken.records[2].size = 3;
     let cases = [
         Chart::sample().bytes(),
         broken.bytes(),

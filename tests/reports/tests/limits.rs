@@ -6,29 +6,32 @@ use reports::numbers::{numbers, spelled};
 use reports::pages::cells;
 use reports::program::file;
 use reports::tree::{text, texts};
-use second::limits::{AGES, BLOCKS, LONGEST, NODES, PASSES, WAYS};
+use second::limits::{AGES, BLOCKS, CLASSES, LONGEST, NODES, PASSES, TOUCHES, WAYS};
 use second::report::INPUT;
 use std::fs;
 
 const RULES: &str = "docs/RULES.md";
 
 /// The limits by the names that rule 1.4 has for them, in its order.
-const NAMED: [(&str, usize); 7] = [
+const NAMED: [(&str, usize); 9] = [
     ("the most nodes", NODES),
     ("the most blocks", BLOCKS),
     ("the most ways", WAYS),
+    ("the most touches of a node", TOUCHES),
     ("the most ages of one kind", AGES),
+    ("the most classes", CLASSES),
     ("the longest chart", LONGEST),
     ("the bytes that are taken", INPUT),
     ("enough passes", PASSES),
 ];
 
-/// The limits that are looked for, with their neighbours: 64 and 8 stand for too much else.
-const LIMITS: [usize; 10] = [
+/// The limits that are looked for, with their neighbours: 64, 8 and 2 stand for too much else.
+const LIMITS: [usize; 11] = [
     NODES - 1,
     NODES,
     NODES + 1,
     AGES,
+    CLASSES,
     LONGEST - 8,
     LONGEST,
     INPUT,
@@ -56,7 +59,7 @@ const PLACES: [(&str, &[usize]); 7] = [
     ("README.md", &[NODES]),
     ("crates/chart/specs/Geometry.antt", &[NODES]),
     ("crates/chart/src/shape.rt", &[NODES]),
-    (RULES, &[NODES, AGES, LONGEST, INPUT, PASSES]),
+    (RULES, &[NODES, AGES, CLASSES, LONGEST, INPUT, PASSES]),
     ("include/veilbuzz.h", &[NODES]),
     ("tests/second/src/limits.rs", &[NODES]),
     ("wrapper/src/limits.rs", &[NODES]),
@@ -74,11 +77,13 @@ const LEFT_OUT: [&str; 7] = [
 ];
 
 /// The same numbers where they are no limits: weights of bits, an address, and a stack in KiB.
-const OTHERS: [(&str, &[usize]); 5] = [
+const OTHERS: [(&str, &[usize]); 7] = [
     ("crates/chart/proofs/Bytes.antt", &[1_024]),
     ("crates/chart/specs/Bytes.antt", &[1_024]),
+    ("crates/chart/specs/Sizes.antt", &[1_024]),
     ("crates/chart/src/words.rt", &[65_536]),
     ("crates/demands/specs/Charts.antt", &[1_024]),
+    ("crates/demands/specs/Straddling.antt", &[1_024]),
     ("tests/reports/tests/stack.rs", &[1_024]),
 ];
 

@@ -35,7 +35,7 @@ fn faulty(faults: u32) -> Vec<u8> {
         chart.header.tail = 1;
     }
     if has(9) {
-        chart.records[BROKEN].spare = 1;
+        chart.records[BROKEN].size = 3;
     }
     if has(10) {
         for node in 0..MANY {
@@ -87,14 +87,18 @@ fn fewer_than_8_bytes_give_1_before_any_other_fault() {
 
 #[test]
 fn a_broken_record_goes_before_too_many_blocks_wherever_it_stands() {
+    let kind = Record {
+        kind: 3,
+        ..Record::step()
+    };
+    let past_the_end = Record::read(0xFFFF_FFFF).sized(1);
     for node in [0, BLOCKS - 1, BLOCKS, BLOCKS + 1, MANY - 1] {
         let mut chart = Chart::straight(&(0..MANY as u64).map(|block| block * 16).collect::<Vec<u64>>());
         says(&chart.bytes(), &format!("refused 10 at {BLOCKS}"));
-        chart.records[node] = Record {
-            kind: 3,
-            ..Record::step()
-        };
-        says(&chart.bytes(), &format!("refused 9 at {node}"));
+        for broken in [kind, past_the_end] {
+            chart.records[node] = broken;
+            says(&chart.bytes(), &format!("refused 9 at {node}"));
+        }
     }
 }
 

@@ -18,14 +18,17 @@ fn backward(nodes: usize) -> Chart {
 
 #[test]
 fn one_node_takes_one_pass() {
-    says(&Chart::steps(1).bytes(), "nodes 1 blocks 0 passes 1\n0 none");
+    says(&Chart::steps(1).bytes(), "nodes 1 blocks 0 passes 1\n0 none none");
 }
 
 #[test]
 fn a_change_goes_backward_one_node_in_a_pass() {
     let mut chart = Chart::of(vec![Record::step(), Record::step().to(0), Record::step().to(1)]);
     chart.header.entry = 2;
-    says(&chart.bytes(), "nodes 3 blocks 0 passes 3\n0 none\n1 none\n2 none");
+    says(
+        &chart.bytes(),
+        "nodes 3 blocks 0 passes 3\n0 none none\n1 none none\n2 none none",
+    );
 }
 
 #[test]

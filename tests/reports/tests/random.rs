@@ -65,8 +65,11 @@ fn the_random_charts_meet_every_refusal_and_every_word_often_enough() {
         met(20, format!("refusal {number}"), &|report| report.starts_with(&begins));
     }
     for word in ["unreached", "hit", "miss", "unsure", "none"] {
-        let ends = format!(" {word}\n");
-        met(150, format!("the word {word}"), &|report| report.contains(&ends));
+        let (first, second) = (format!(" {word} "), format!(" {word}\n"));
+        met(150, format!("the first word {word}"), &|report| report.contains(&first));
+        met(100, format!("the second word {word}"), &|report| {
+            report.contains(&second)
+        });
     }
     for passes in [1, 2, 3, 4, 5, 6, 7, 8] {
         let ends = format!(" passes {passes}\n");

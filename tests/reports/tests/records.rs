@@ -52,7 +52,7 @@ fn a_bare_step_with_an_address_gives_9() {
 }
 
 #[test]
-fn a_reference_may_have_any_address() {
+fn a_reference_to_one_byte_may_have_any_address() {
     for address in [0, 1, 0x8000_0000, 0xFFFF_FFFF] {
         keeps(Record::read(address));
         keeps(Record::write(address));
@@ -186,10 +186,7 @@ fn two_nodes_may_lead_to_one() {
 
 #[test]
 fn two_arrows_to_one_node_are_told_where_they_are_the_first_fault() {
-    let fault = Record {
-        spare: 1,
-        ..Record::step()
-    };
+    let fault = Record::step().sized(1);
     let twins = Record::step().twins(1);
     for (records, node) in [
         ([twins, fault, twins], 0),
@@ -203,16 +200,33 @@ fn two_arrows_to_one_node_are_told_where_they_are_the_first_fault() {
 }
 
 #[test]
-fn each_spare_bit_gives_9() {
-    for bit in 0..4 {
-        breaks(Record {
-            spare: 1 << bit,
-            ..Record::step()
-        });
-        breaks(Record {
-            spare: 1 << bit,
-            ..Record::read(0).to(1)
-        });
+fn size_codes_0_to_2_pass_and_others_give_9() {
+    for size in 0..=2 {
+        keeps(Record::read(0).sized(size).to(1));
+        keeps(Record::write(12).sized(size));
+    }
+    for size in 3..16 {
+        breaks(Record::read(0).sized(size).to(1));
+        breaks(Record::write(12).sized(size));
+    }
+}
+
+#[test]
+fn a_bare_step_with_a_size_gives_9() {
+    for size in 1..16 {
+        breaks(Record::step().sized(size));
+    }
+}
+
+#[test]
+fn a_last_byte_with_an_address_passes_and_one_past_the_last_gives_9() {
+    for (size, last) in [(0, 0xFFFF_FFFF), (1, 0xFFFF_FFFE), (2, 0xFFFF_FFFC)] {
+        for address in 0xFFFF_FFFC..=0xFFFF_FFFF {
+            let reference = [Record::read(address), Record::write(address)].map(|record| record.sized(size));
+            let hold = if address <= last { keeps } else { breaks };
+            reference.into_iter().for_each(hold);
+        }
+        keeps(Record::read(0).sized(size));
     }
 }
 
@@ -232,7 +246,7 @@ fn the_place_is_the_first_node_at_fault() {
 #[test]
 fn nodes_that_no_walk_reaches_keep_the_rules_too() {
     let mut chart = Chart::steps(3);
-    chart.records[2].spare = 1;
+    chart.records[2].size = 1;
     says(&chart.bytes(), "refused 9 at 2");
 }
 

@@ -12,7 +12,7 @@ const RULES: &str = "docs/RULES.md";
 const TRACE: &str = "docs/TRACE.md";
 
 /// How many rules each section has at least: a number belongs to its rule for good.
-const AT_LEAST: [usize; 14] = [4, 9, 4, 7, 3, 7, 9, 2, 6, 3, 18, 9, 3, 4];
+const AT_LEAST: [usize; 14] = [4, 12, 4, 7, 3, 7, 9, 2, 6, 3, 18, 9, 3, 4];
 
 /// All rules, in their order.
 fn rules() -> Vec<Rule> {

@@ -10,9 +10,9 @@ const CHART: [u8; 32] = [
 ];
 
 const REPORT: &str = "nodes 3 blocks 1 passes 2\n\
-                      0 none\n\
-                      1 unsure\n\
-                      2 hit\n";
+                      0 none none\n\
+                      1 unsure none\n\
+                      2 hit none\n";
 
 #[test]
 fn the_program_prints_the_report_of_section_14() {
@@ -22,6 +22,6 @@ fn the_program_prints_the_report_of_section_14() {
 #[test]
 fn a_refusal_is_one_line() {
     let mut broken = CHART;
-    broken[31] = 1;
+    broken[31] = 3;
     assert_eq!(run(&broken), "refused 9 at 2\n");
 }

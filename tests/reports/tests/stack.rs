@@ -20,7 +20,11 @@ fn a_stack_of_1_mib_is_enough() {
         backward.records[node] = backward.records[node].to(node as u64 - 1);
     }
     backward.header.entry = NODES as u64 - 1;
-    for chart in [looping, backward, slowest(NODES)] {
+    let over_ends = addresses
+        .iter()
+        .map(|address| Record::read(address % (16 * (BLOCKS as u64 - 1)) + 15).sized(1));
+    let straddling = Chart::of(over_ends.collect()).in_a_row().shaped(0, 8, 0);
+    for chart in [looping, backward, straddling, slowest(NODES)] {
         let report = answer(command_after(ONE_MIB), &chart.bytes());
         same(&report, &chart.bytes());
         let first = format!("nodes {NODES} blocks {BLOCKS} passes ");

@@ -1,7 +1,7 @@
-//! Prints the limits, for what is no Rust: nodes, blocks, ways, ages, the longest chart, passes.
+//! Prints the limits, for what is no Rust: nodes, blocks, ways, touches, ages, classes, the longest chart, passes.
 
-use second::limits::{AGES, BLOCKS, LONGEST, NODES, PASSES, WAYS};
+use second::limits::{AGES, BLOCKS, CLASSES, LONGEST, NODES, PASSES, TOUCHES, WAYS};
 
 fn main() {
-    println!("{NODES} {BLOCKS} {WAYS} {AGES} {LONGEST} {PASSES}");
+    println!("{NODES} {BLOCKS} {WAYS} {TOUCHES} {AGES} {CLASSES} {LONGEST} {PASSES}");
 }

@@ -1,4 +1,4 @@
-//! What one reference does to a row of ages, a column for each block of the chart.
+//! What one touch does to a row of ages, a column for each block of the chart.
 
 /// A touch of block `m`, whose must age is h: the younger ones of its set, under h, become older by one (rule 6.3).
 pub fn touch_must(row: &mut [u8], sets: &[u8], m: usize) {

@@ -2,6 +2,7 @@
 
 use crate::chart::Chart;
 use crate::class::Class;
+use crate::limits::TOUCHES;
 use crate::passes::settle;
 use crate::refusal::Refusal;
 use crate::table::Table;
@@ -47,8 +48,9 @@ pub fn analyse(bytes: &[u8], allowance: usize, lent: Buffers) -> Analysed {
         classes.fill(0);
         return Analysed::Unsettled { allowance, blocks };
     };
-    for (node, class) in classes.iter_mut().enumerate() {
-        *class = Class::of(&chart, table.lent(), node) as u8;
+    for (node, classes) in classes.chunks_exact_mut(TOUCHES).enumerate() {
+        let both = Class::of(&chart, table.lent(), node);
+        classes.copy_from_slice(&both.map(|class| class as u8));
     }
     Analysed::Settled { passes, blocks }
 }
@@ -62,5 +64,6 @@ fn used<'a>(chart: &Chart, lent: Buffers<'a>) -> Option<(&'a mut [u32], Table<'a
         may: lent.may.get_mut(..nodes * blocks)?,
         marks: lent.marks.get_mut(..nodes)?,
     };
-    Some((lent.blocks.get_mut(..blocks)?, table, lent.classes.get_mut(..nodes)?))
+    let classes = lent.classes.get_mut(..TOUCHES * nodes)?;
+    Some((lent.blocks.get_mut(..blocks)?, table, classes))
 }

@@ -2,6 +2,7 @@
 
 use crate::chart::Chart;
 use crate::geometry::Geometry;
+use crate::limits::TOUCHES;
 
 /// For each set a list of its blocks, youngest first. It begins empty and only touches change it, so that each list has at most as many
 /// blocks as there are ways, all different and of its set.
@@ -31,7 +32,7 @@ impl Cache {
         place.map_or(self.geometry.ways, |place| place as u8)
     }
 
-    /// A reference to a block. Whether it hits.
+    /// A touch of a block. Whether it hits.
     pub fn touch(&mut self, block: u32) -> bool {
         let list = &mut self.lists[usize::from(self.geometry.set_of(block))];
         let place = list.iter().position(|&held| held == block);
@@ -43,10 +44,10 @@ impl Cache {
         place.is_some()
     }
 
-    /// A visit to a node. Whether its reference hits, or nothing at a bare step.
-    pub fn visit(&mut self, chart: &Chart, node: usize) -> Option<bool> {
-        let column = chart.nodes[node].block?;
-        Some(self.touch(chart.blocks[column]))
+    /// A visit to a node. Whether each of its touches hits, in turn; nothing for a touch that it does not make.
+    pub fn visit(&mut self, chart: &Chart, node: usize) -> [Option<bool>; TOUCHES] {
+        let touches = chart.nodes[node].touches;
+        touches.map(|column| column.map(|column| self.touch(chart.blocks[column])))
     }
 }
 
@@ -70,10 +71,7 @@ pub fn cost(chart: &Chart, mut cache: Cache, costs: Costs, nodes: &[usize]) -> O
     if !is_walk(chart, nodes) {
         return None;
     }
-    let paid = nodes.iter().map(|&node| match cache.visit(chart, node) {
-        Some(true) => u64::from(costs.hit),
-        Some(false) => u64::from(costs.miss),
-        None => 0,
-    });
+    let touches = nodes.iter().flat_map(|&node| cache.visit(chart, node)).flatten();
+    let paid = touches.map(|hits| u64::from(if hits { costs.hit } else { costs.miss }));
     Some(paid.sum())
 }

@@ -2,22 +2,29 @@
 
 use crate::geometry::Geometry;
 use crate::header::Header;
-use crate::limits::BLOCKS;
-use crate::record::{Arrows, Record};
+use crate::limits::{BLOCKS, TOUCHES};
+use crate::record::{Arrows, Record, Reference};
 use crate::refusal::Refusal;
 
-/// A node: which block it touches, if it is a reference, and where it leads.
+/// A node: which blocks it touches, if it is a reference, and where it leads.
 #[derive(Clone, Copy, Debug, PartialEq, Eq)]
 pub struct Node {
-    /// The place of its block in the chart's list.
-    pub block: Option<usize>,
+    /// The place in the chart's list of the block of each touch, the first touch first; nothing behind the last.
+    pub touches: [Option<usize>; TOUCHES],
     pub arrows: Arrows,
+}
+
+impl Node {
+    /// The places of the blocks that it touches, in turn.
+    pub fn touched(&self) -> impl Iterator<Item = usize> + '_ {
+        self.touches.iter().copied().flatten()
+    }
 }
 
 #[derive(Clone, Debug, PartialEq, Eq)]
 pub struct Chart {
     pub header: Header,
-    /// The distinct blocks of all references, ascending.
+    /// The distinct blocks that the references touch, ascending.
     pub blocks: Vec<u32>,
     /// The set of each block of the list.
     pub sets: Vec<u8>,
@@ -28,15 +35,13 @@ impl Chart {
     pub fn read(bytes: &[u8]) -> Result<Chart, Refusal> {
         let header = Header::read(bytes)?;
         let records = records(&bytes[8..], header.nodes)?;
-        let blocks = blocks(&records, &header.geometry)?;
+        let blocks = blocks(&records, header.geometry)?;
         let sets = blocks.iter().map(|&block| header.geometry.set_of(block)).collect();
         let nodes = records
             .iter()
             .map(|record| Node {
-                block: record.address.map(|address| {
-                    blocks
-                        .binary_search(&header.geometry.block_of(address))
-                        .expect("the list has the block of every reference")
+                touches: record.reference.map_or([None; TOUCHES], |reference| {
+                    touches(reference, header.geometry, &blocks)
                 }),
                 arrows: record.arrows,
             })
@@ -66,17 +71,28 @@ fn records(bytes: &[u8], nodes: usize) -> Result<Vec<Record>, Refusal> {
         .collect()
 }
 
-fn blocks(records: &[Record], geometry: &Geometry) -> Result<Vec<u32>, Refusal> {
+fn blocks(records: &[Record], geometry: Geometry) -> Result<Vec<u32>, Refusal> {
     let mut blocks = Vec::with_capacity(BLOCKS);
     for (node, record) in records.iter().enumerate() {
-        let Some(address) = record.address else { continue };
-        let block = geometry.block_of(address);
-        if let Err(place) = blocks.binary_search(&block) {
-            if blocks.len() == BLOCKS {
-                return Err(Refusal::at(10, node));
+        let Some(reference) = record.reference else { continue };
+        for block in geometry.blocks_of(reference) {
+            if let Err(place) = blocks.binary_search(&block) {
+                if blocks.len() == BLOCKS {
+                    return Err(Refusal::at(10, node));
+                }
+                blocks.insert(place, block);
             }
-            blocks.insert(place, block);
         }
     }
     Ok(blocks)
+}
+
+/// Where the list has the blocks of a reference.
+fn touches(reference: Reference, geometry: Geometry, blocks: &[u32]) -> [Option<usize>; TOUCHES] {
+    let mut places = geometry.blocks_of(reference).map(|block| {
+        blocks
+            .binary_search(&block)
+            .expect("the list has the blocks of every reference")
+    });
+    std::array::from_fn(|_| places.next())
 }

@@ -1,7 +1,9 @@
 use crate::chart::Chart;
 use crate::lent::Lent;
+use crate::limits::TOUCHES;
+use crate::state::State;
 
-/// What is known of a node's reference. The numbers are those of rule 8.1.
+/// What is known of a touch. The numbers are those of rule 8.1.
 #[derive(Clone, Copy, Debug, PartialEq, Eq)]
 pub enum Class {
     Unreached = 0,
@@ -12,18 +14,34 @@ pub enum Class {
 }
 
 impl Class {
-    /// The class of a node under a table.
-    pub fn of(chart: &Chart, lent: Lent, node: usize) -> Class {
+    /// The classes of a node under a table, one for each touch that it can make. The second goes by the state after the first (rule 8.2).
+    pub fn of(chart: &Chart, lent: Lent, node: usize) -> [Class; TOUCHES] {
         if !lent.marked(node) {
-            return Class::Unreached;
+            return [Class::Unreached; TOUCHES];
         }
-        let Some(m) = chart.nodes[node].block else {
-            return Class::None;
-        };
         let (must, may) = lent.rows(chart, node);
-        if must[m] < chart.ways() {
+        match chart.nodes[node].touches {
+            [None, _] => [Class::None; TOUCHES],
+            [Some(m), None] => [Class::known(chart, must[m], may[m]), Class::None],
+            [Some(lower), Some(upper)] => {
+                let mut state = State {
+                    must: must.to_vec(),
+                    may: may.to_vec(),
+                };
+                state.touch(chart, lower);
+                [
+                    Class::known(chart, must[lower], may[lower]),
+                    Class::known(chart, state.must[upper], state.may[upper]),
+                ]
+            }
+        }
+    }
+
+    /// The class of a touch by the ages of its block just before it.
+    fn known(chart: &Chart, must: u8, may: u8) -> Class {
+        if must < chart.ways() {
             Class::Hit
-        } else if may[m] == chart.ways() {
+        } else if may == chart.ways() {
             Class::Miss
         } else {
             Class::Unsure

@@ -1,4 +1,5 @@
 use crate::limits::WAYS;
+use crate::record::Reference;
 
 /// The shape of a cache: lines of 2^`line` bytes, 2^`sets` sets, `ways` blocks in a set.
 #[derive(Clone, Copy, Debug, PartialEq, Eq)]
@@ -13,8 +14,21 @@ impl Geometry {
         (2..=8).contains(&self.line) && self.sets <= 8 && (1..=WAYS).contains(&usize::from(self.ways))
     }
 
-    pub fn block_of(&self, address: u32) -> u32 {
+    pub fn block_of(self, address: u32) -> u32 {
         address >> self.line
+    }
+
+    fn begins_a_line(self, address: u32) -> bool {
+        address % (1 << self.line) == 0
+    }
+
+    /// The blocks that a reference comes to as it goes through its bytes: one with the first byte, and one wherever a line begins (rule 3.3).
+    pub fn blocks_of(self, reference: Reference) -> impl Iterator<Item = u32> {
+        let comes = move |&address: &u32| address == reference.first || self.begins_a_line(address);
+        reference
+            .addresses()
+            .filter(comes)
+            .map(move |address| self.block_of(address))
     }
 
     /// At most 256 sets, so that a set's number fits a byte.

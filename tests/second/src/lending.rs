@@ -2,7 +2,7 @@ use crate::analysis::{analyse, Analysed, Buffers};
 use crate::cache::Costs;
 use crate::checker::check;
 use crate::lent::Lent;
-use crate::limits::{BLOCKS, NODES};
+use crate::limits::{BLOCKS, NODES, TOUCHES};
 use crate::refusal::Refusal;
 use crate::totals::{totals, Bounds, Totals};
 
@@ -24,7 +24,7 @@ impl Lending {
             must: vec![byte; nodes * blocks],
             may: vec![byte; nodes * blocks],
             marks: vec![byte; nodes],
-            classes: vec![byte; nodes],
+            classes: vec![byte; TOUCHES * nodes],
         }
     }
 

@@ -9,8 +9,14 @@ pub const BLOCKS: usize = 64;
 /// The most ways of a set.
 pub const WAYS: usize = 8;
 
+/// The most touches of a node.
+pub const TOUCHES: usize = 2;
+
 /// Must ages, or may ages, of a chart that has the most nodes and blocks.
 pub const AGES: usize = NODES * BLOCKS;
+
+/// Classes of a chart that has the most nodes.
+pub const CLASSES: usize = TOUCHES * NODES;
 
 /// The bytes of a chart of so many nodes.
 pub const fn length(nodes: usize) -> usize {

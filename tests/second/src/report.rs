@@ -3,7 +3,7 @@
 use crate::analysis::Analysed;
 use crate::header::Header;
 use crate::lending::Lending;
-use crate::limits::{LONGEST, PASSES};
+use crate::limits::{LONGEST, PASSES, TOUCHES};
 use crate::refusal::Refusal;
 use std::fmt::Write;
 
@@ -19,7 +19,7 @@ pub fn report(input: &[u8]) -> String {
     match lending.analyse(input, PASSES) {
         Analysed::Settled { passes, blocks } => {
             let nodes = Header::read(input).expect("the analysis accepted it").nodes;
-            settled(nodes, blocks, passes, &lending.classes[..nodes])
+            settled(nodes, blocks, passes, &lending.classes[..TOUCHES * nodes])
         }
         Analysed::Unsettled { .. } => refused(Refusal::of(12)),
         Analysed::Refused(refusal) => refused(refusal),
@@ -28,8 +28,12 @@ pub fn report(input: &[u8]) -> String {
 
 fn settled(nodes: usize, blocks: usize, passes: usize, classes: &[u8]) -> String {
     let mut text = format!("nodes {nodes} blocks {blocks} passes {passes}\n");
-    for (node, &class) in classes.iter().enumerate() {
-        writeln!(text, "{node} {}", WORDS[usize::from(class)]).expect("a string takes any text");
+    for (node, classes) in classes.chunks_exact(TOUCHES).enumerate() {
+        write!(text, "{node}").expect("a string takes any text");
+        for &class in classes {
+            write!(text, " {}", WORDS[usize::from(class)]).expect("a string takes any text");
+        }
+        text.push('\n');
     }
     text
 }

@@ -22,12 +22,18 @@ impl State {
         }
     }
 
-    /// Becomes what a node's record makes of these rows, which stand on its arrival.
+    /// Becomes what a touch of block `m` makes of it.
+    pub fn touch(&mut self, chart: &Chart, m: usize) {
+        ages::touch_must(&mut self.must, &chart.sets, m);
+        ages::touch_may(&mut self.may, &chart.sets, chart.ways(), m);
+    }
+
+    /// Becomes what a node's record makes of these rows, which stand on its arrival: one touch after the other.
     pub fn pass_through(&mut self, chart: &Chart, node: &Node, must: &[u8], may: &[u8]) {
         self.must.copy_from_slice(must);
         self.may.copy_from_slice(may);
-        let Some(m) = node.block else { return };
-        ages::touch_must(&mut self.must, &chart.sets, m);
-        ages::touch_may(&mut self.may, &chart.sets, chart.ways(), m);
+        for m in node.touched() {
+            self.touch(chart, m);
+        }
     }
 }

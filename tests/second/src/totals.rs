@@ -50,18 +50,20 @@ fn refuse(chart: &Chart, lent: Lent, costs: Costs, bounds: Bounds) -> Result<(),
     Ok(())
 }
 
-/// What the marked references add. The largest sum is that of the most nodes, times the square of 65,535.
+/// What the touches of marked nodes add. The largest sum is that of the most classes, times the square of 65,535.
 fn sums(chart: &Chart, lent: Lent, costs: Costs, bounds: Bounds) -> Totals {
     let mut totals = Totals { low: 0, high: 0 };
     for node in 0..chart.nodes.len() {
-        let (least, most) = match Class::of(chart, lent, node) {
-            Class::Unreached | Class::None => continue,
-            Class::Hit => (costs.hit, costs.hit),
-            Class::Miss => (costs.miss, costs.miss),
-            Class::Unsure => (costs.hit, costs.miss),
-        };
-        totals.low += u64::from(bounds.floors[node]) * u64::from(least);
-        totals.high += u64::from(bounds.ceilings[node]) * u64::from(most);
+        for class in Class::of(chart, lent, node) {
+            let (least, most) = match class {
+                Class::Unreached | Class::None => continue,
+                Class::Hit => (costs.hit, costs.hit),
+                Class::Miss => (costs.miss, costs.miss),
+                Class::Unsure => (costs.hit, costs.miss),
+            };
+            totals.low += u64::from(bounds.floors[node]) * u64::from(least);
+            totals.high += u64::from(bounds.ceilings[node]) * u64::from(most);
+        }
     }
     totals
 }

@@ -3,6 +3,7 @@
 use charts::Chart;
 use second::analysis::Analysed;
 use second::lending::Lending;
+use second::limits::TOUCHES;
 use second::refusal::Refusal;
 
 /// What stands in each buffer before the analysis, and after it in the tails.
@@ -42,7 +43,7 @@ fn a_settled_chart_is_written_whole_and_tails_are_kept() {
     holds(&lending.must, &ages);
     holds(&lending.may, &ages);
     holds(&lending.marks, &[1; NODES]);
-    holds(&lending.classes, &[2, 2, 2, 1]);
+    holds(&lending.classes, &[2, 4, 2, 4, 2, 4, 1, 4]);
 }
 
 #[test]
@@ -57,7 +58,7 @@ fn refusal_12_writes_the_blocks_and_zeros() {
     holds(&lending.must, &[0; NODES * BLOCKS]);
     holds(&lending.may, &[0; NODES * BLOCKS]);
     holds(&lending.marks, &[0; NODES]);
-    holds(&lending.classes, &[0; NODES]);
+    holds(&lending.classes, &[0; TOUCHES * NODES]);
 }
 
 #[test]
@@ -69,7 +70,7 @@ fn a_buffer_one_too_short_is_refusal_11_and_nothing_changes() {
         |lending| lending.must.truncate(NODES * BLOCKS - 1),
         |lending| lending.may.truncate(NODES * BLOCKS - 1),
         |lending| lending.marks.truncate(NODES - 1),
-        |lending| lending.classes.truncate(NODES - 1),
+        |lending| lending.classes.truncate(TOUCHES * NODES - 1),
     ];
     for shorten in shortened {
         let mut lending = exact.clone();

@@ -7,12 +7,14 @@ use second::limits::PASSES;
 const UNKNOWN: u64 = 0;
 const EMPTY: u64 = 1;
 
-/// The classes of three reads in a row.
+/// The classes of three reads of a byte in a row. None of them makes a second touch.
 fn classes(addresses: [u64; 3], sets: u64, ways: u64, start: u64) -> Vec<u8> {
     let mut lending = Lending::largest();
     let chart = Chart::straight(&addresses).shaped(sets, ways, start);
     lending.analyse(&chart.bytes(), PASSES);
-    lending.classes[..3].to_vec()
+    let both = lending.classes[..6].chunks(2);
+    assert!(both.clone().all(|classes| classes[1] == 4));
+    both.map(|classes| classes[0]).collect()
 }
 
 #[test]

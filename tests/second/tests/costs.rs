@@ -6,6 +6,7 @@ use charts::random::Random;
 use second::cache::{cost, Costs};
 use second::chart::Chart;
 use second::lending::Lending;
+use second::limits::TOUCHES;
 use second::totals::{Bounds, Totals};
 use walking::{found, looser, settled, walk};
 
@@ -56,9 +57,10 @@ fn totals(bytes: &[u8], table: &Lending, costs: Costs, floors: &[u16], ceilings:
     totals.expect("the table passes and the bounds hold")
 }
 
-/// Whether a walk meets no reference that is called unsure.
+/// Whether a walk makes no touch that is called unsure.
 fn is_sure(table: &Lending, walk: &[usize]) -> bool {
-    walk.iter().all(|&node| table.classes[node] != 3)
+    walk.iter()
+        .all(|&node| !table.classes[TOUCHES * node..][..TOUCHES].contains(&3))
 }
 
 /// Holds what a random walk costs to the totals under tables that pass, of which the first is the tightest. Where a walk is sure and its

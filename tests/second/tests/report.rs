@@ -12,7 +12,10 @@ fn the_sample_has_the_report_of_section_14() {
         0x40, 0x00, 0x00, 0x00, 0x20, 0x01, 0x00, 0x20, //
         0x40, 0x00, 0x00, 0x00, 0x00, 0x00, 0x00, 0x00,
     ];
-    assert_eq!(report(&sample), "nodes 3 blocks 1 passes 2\n0 none\n1 unsure\n2 hit\n");
+    assert_eq!(
+        report(&sample),
+        "nodes 3 blocks 1 passes 2\n0 none none\n1 unsure none\n2 hit none\n"
+    );
 }
 
 #[test]
@@ -20,7 +23,7 @@ fn a_read_from_empty_is_a_miss_and_a_node_behind_it_unreached() {
     let chart = Chart::of(vec![Record::read(0), Record::step()]);
     assert_eq!(
         report(&chart.bytes()),
-        "nodes 2 blocks 1 passes 1\n0 miss\n1 unreached\n"
+        "nodes 2 blocks 1 passes 1\n0 miss none\n1 unreached unreached\n"
     );
 }
 
@@ -38,7 +41,10 @@ fn the_most_blocks_pass_and_one_more_is_refused() {
 #[test]
 fn eight_ways_pass_and_0_and_9_do_not() {
     let ways = |ways| report(&Chart::sample().shaped(0, ways, 1).bytes());
-    assert_eq!(ways(8), "nodes 3 blocks 1 passes 2\n0 none\n1 unsure\n2 hit\n");
+    assert_eq!(
+        ways(8),
+        "nodes 3 blocks 1 passes 2\n0 none none\n1 unsure none\n2 hit none\n"
+    );
     assert_eq!(ways(0), "refused 3 at 0\n");
     assert_eq!(ways(9), "refused 3 at 0\n");
 }
@@ -56,7 +62,10 @@ fn an_arrow_to_n_gives_9_and_to_n_less_1_passes() {
         report(&chart.bytes())
     };
     assert_eq!(leading_to(3), "refused 9 at 2\n");
-    assert_eq!(leading_to(2), "nodes 3 blocks 1 passes 2\n0 none\n1 unsure\n2 hit\n");
+    assert_eq!(
+        leading_to(2),
+        "nodes 3 blocks 1 passes 2\n0 none none\n1 unsure none\n2 hit none\n"
+    );
 }
 
 #[test]
@@ -69,13 +78,16 @@ fn two_arrows_to_one_node_give_9_and_to_two_nodes_pass() {
     for target in 0..3 {
         assert_eq!(leading_to(target, target), "refused 9 at 2\n");
     }
-    assert_eq!(leading_to(2, 0), "nodes 3 blocks 1 passes 2\n0 none\n1 unsure\n2 hit\n");
+    assert_eq!(
+        leading_to(2, 0),
+        "nodes 3 blocks 1 passes 2\n0 none none\n1 unsure none\n2 hit none\n"
+    );
 }
 
 #[test]
 fn an_input_longer_than_the_longest_chart_is_too_long() {
     let longest = Chart::steps(NODES).bytes();
-    let begins = format!("nodes {NODES} blocks 0 passes 1\n0 none\n1 unreached\n");
+    let begins = format!("nodes {NODES} blocks 0 passes 1\n0 none none\n1 unreached unreached\n");
     assert!(report(&longest).starts_with(&begins));
     let mut longer = longest;
     longer.resize(longer.len() + 3_000, 255);

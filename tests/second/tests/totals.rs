@@ -4,7 +4,7 @@ use charts::{Chart, Record};
 use second::analysis::Analysed;
 use second::cache::Costs;
 use second::lending::Lending;
-use second::limits::{NODES, PASSES};
+use second::limits::{CLASSES, NODES, PASSES};
 use second::totals::{Bounds, Totals};
 
 const COSTS: Costs = Costs { hit: 1, miss: 10 };
@@ -42,7 +42,10 @@ fn classes() -> Vec<u8> {
         Record::step(),
         Record::read(0x20),
     ]);
-    assert_eq!(settled(&chart.bytes()).classes[..6], [2, 1, 4, 3, 4, 0]);
+    assert_eq!(
+        settled(&chart.bytes()).classes[..12],
+        [2, 4, 1, 4, 4, 4, 3, 4, 4, 4, 0, 0]
+    );
     chart.bytes()
 }
 
@@ -151,11 +154,11 @@ fn the_largest_sum_is_exact() {
         miss: 65_535,
     };
     let most = [65_535; NODES];
-    let largest = NODES as u64 * 65_535 * 65_535;
-    let hits = Chart::straight(&[0; NODES]).bytes();
+    let largest = CLASSES as u64 * 65_535 * 65_535;
+    let straddling = Chart::of(vec![Record::read(0x0E).sized(2); NODES]).in_a_row();
+    let hits = straddling.clone().bytes();
     assert_eq!(totals(&hits, &settled(&hits), costs, &most, &most), (largest, largest));
-    let other: Vec<u64> = (0..NODES as u64).map(|node| node % 2 * 16).collect();
-    let misses = Chart::straight(&other).shaped(0, 1, 1).bytes();
+    let misses = straddling.shaped(0, 1, 1).bytes();
     let costs = Costs { hit: 0, miss: 65_535 };
     assert_eq!(
         totals(&misses, &settled(&misses), costs, &most, &most),

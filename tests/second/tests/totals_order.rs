@@ -34,7 +34,7 @@ fn refused_charts() -> Vec<(Refusal, Vec<u8>)> {
         chart.bytes()
     };
     let mut unruly = sample();
-    unruly.records[4].spare = 1;
+    unruly.records[4].size = 3;
     let many: Vec<u64> = (0..BLOCKS as u64 + 2).map(|block| block * 16).collect();
     vec![
         (Refusal::of(1), sample().bytes()[..7].to_vec()),

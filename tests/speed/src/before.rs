@@ -2,11 +2,24 @@
 //! linked only where `tests/speed/before` asks for it.
 
 use crate::runs::Analysis;
+use second::lending::Lending;
+use second::limits::TOUCHES;
 
 #[cfg(before)]
 pub const BEFORE: Option<Analysis> = Some(linked::analyse);
 #[cfg(not(before))]
 pub const BEFORE: Option<Analysis> = None;
+
+/// Whether both have left the same. An archive from before a node had two classes writes one for each node, into the first half of the buffer:
+/// of a chart whose nodes touch one block it is the first of today's two.
+pub fn agree(now: &Lending, before: &Lending) -> bool {
+    let first: Vec<u8> = now.classes.iter().copied().step_by(TOUCHES).collect();
+    let mut before = before.clone();
+    if before.classes.starts_with(&first) {
+        before.classes.clone_from(&now.classes);
+    }
+    *now == before
+}
 
 #[cfg(before)]
 mod linked {

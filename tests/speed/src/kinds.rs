@@ -1,4 +1,4 @@
-//! Kinds of charts, of any size: each node reads a block, in a cache of four sets of eight ways.
+//! Kinds of charts, of any size: each node reads a block, or over the end of one, in a cache of four sets of eight ways.
 
 use charts::random::Random;
 use charts::{Chart, Record};
@@ -13,6 +13,8 @@ pub enum Kind {
     Backward,
     /// As short, with the blocks in any order.
     Mixed,
+    /// As short, with each read over the end of a line: two touches for each node.
+    Straddling,
 }
 
 impl Kind {
@@ -27,28 +29,30 @@ impl Kind {
             Kind::Looping => "looping",
             Kind::Backward => "backward",
             Kind::Mixed => "mixed",
+            Kind::Straddling => "straddling",
         }
     }
 
     /// One chart where the blocks take turns, many where they come in any order.
     pub fn charts(self, nodes: usize, blocks: usize) -> Vec<Vec<u8>> {
-        let Kind::Mixed = self else {
-            return vec![self.chart(nodes, |node| node % blocks)];
-        };
-        (0..Kind::ORDERS)
-            .map(|seed| {
-                let mut random = Random::new(seed);
-                self.chart(nodes, |_| random.below(blocks as u64) as usize)
-            })
-            .collect()
+        match self {
+            Kind::Mixed => (0..Kind::ORDERS)
+                .map(|seed| {
+                    let mut random = Random::new(seed);
+                    self.chart(nodes, |_| read(random.below(blocks as u64) as usize))
+                })
+                .collect(),
+            // the last block is only gone into
+            Kind::Straddling => vec![self.chart(nodes, |node| over_the_end(node % (blocks - 1)))],
+            _ => vec![self.chart(nodes, |node| read(node % blocks))],
+        }
     }
 
-    fn chart(self, nodes: usize, mut block_of: impl FnMut(usize) -> usize) -> Vec<u8> {
+    fn chart(self, nodes: usize, mut reads: impl FnMut(usize) -> Record) -> Vec<u8> {
         let records = (0..nodes).map(|node| {
-            let read = Record::read((block_of(node) * 16) as u64);
             self.targets(node, nodes)
                 .into_iter()
-                .fold(read, |read, target| read.to(target as u64))
+                .fold(reads(node), |read, target| read.to(target as u64))
         });
         let mut chart = Chart::of(records.collect()).shaped(2, 8, 1);
         if let Kind::Backward = self {
@@ -59,7 +63,7 @@ impl Kind {
 
     fn targets(self, node: usize, nodes: usize) -> Vec<usize> {
         match self {
-            Kind::Short | Kind::Mixed => (node + 1..nodes).take(2).collect(),
+            Kind::Short | Kind::Mixed | Kind::Straddling => (node + 1..nodes).take(2).collect(),
             Kind::Looping => {
                 let back = [nodes, 64, 16, 4]
                     .into_iter()
@@ -70,4 +74,14 @@ impl Kind {
             Kind::Backward => vec![node.checked_sub(1).unwrap_or(nodes - 1)],
         }
     }
+}
+
+/// A read of the first byte of a block.
+fn read(block: usize) -> Record {
+    Record::read((block * 16) as u64)
+}
+
+/// A read of the last byte of a block and of the byte behind it.
+fn over_the_end(block: usize) -> Record {
+    Record::read((block * 16 + 15) as u64).sized(1)
 }

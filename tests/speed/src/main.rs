@@ -10,7 +10,7 @@
 use charts::slowest::slowest;
 use second::lending::Lending;
 use second::limits::PASSES;
-use speed::before::BEFORE;
+use speed::before::{agree, BEFORE};
 use speed::growth::{growths, start, Growth};
 use speed::kinds::Kind;
 use speed::measures::{ratio, Case, Measure};
@@ -32,7 +32,7 @@ fn main() {
             .write_all(&slowest(number(nodes)).bytes())
             .expect("standard output takes the chart"),
         [whose, kind, nodes, blocks, times] => alone(whose, kind, number(nodes), number(blocks), number(times)),
-        _ => panic!("'table PICTURE', 'before', 'growth PROGRAM PICTURE', 'slowest NODES', or: ours|second short|looping|backward NODES BLOCKS TIMES"),
+        _ => panic!("'table PICTURE', 'before', 'growth PROGRAM PICTURE', 'slowest NODES', or: ours|second short|looping|backward|straddling NODES BLOCKS TIMES"),
     }
 }
 
@@ -46,6 +46,9 @@ fn table(picture: &str) {
             (case, ratio(measure.whole.best))
         })
         .collect();
+    for case in Case::straddling() {
+        println!("{}", row(case, &case.measure()));
+    }
     fs::write(picture, plot::svg(&measured)).expect("the picture can be written");
 }
 
@@ -67,7 +70,7 @@ fn changed() {
     println!("| chart | nodes | blocks | before, µs | now, µs | now / before | beside the passes: now / before |");
     println!("|---|---|---|---|---|---|---|");
     for case in Case::changed().filter(|case| case.taken_by(before)) {
-        let measure = case.compare([OURS, before]);
+        let measure = case.compare([OURS, before], agree);
         let Case { nodes, blocks, .. } = case;
         let name = case.kind.name();
         let [now, then] = measure.whole.best;
@@ -102,8 +105,9 @@ fn alone(whose: &str, kind: &str, nodes: usize, blocks: usize, times: usize) {
     };
     let kind = Kind::IN_TURN
         .into_iter()
+        .chain([Kind::Straddling])
         .find(|known| known.name() == kind)
-        .expect("the kind is short, looping or backward");
+        .expect("the kind is short, looping, backward or straddling");
     let charts = kind.charts(nodes, blocks);
     let mut run = Run {
         analysis,

@@ -4,11 +4,12 @@
 #![allow(dead_code)]
 
 use charts::{Chart, Record};
-use veilbuzz::{Buffers, Table};
+use veilbuzz::{Buffers, Table, TOUCHES};
 
 pub const NODES: usize = 4;
 pub const BLOCKS: usize = 3;
 pub const AGES: usize = NODES * BLOCKS;
+pub const CLASSES: usize = TOUCHES * NODES;
 
 /// Reads of 0x00, 0x10 and 0x00 in a row in one set of two ways, unknown (section 8 of the rules), and a read of 0x20 that no walk reaches.
 pub fn chart() -> Vec<u8> {
@@ -35,7 +36,7 @@ impl Lent {
             must: vec![77; AGES + 1],
             may: vec![77; AGES + 1],
             marks: vec![77; NODES + 1],
-            classes: vec![77; NODES + 1],
+            classes: vec![77; CLASSES + 1],
         }
     }
 
@@ -46,7 +47,7 @@ impl Lent {
             must: vec![2, 2, 2, 0, 2, 2, 1, 0, 2, 0, 0, 0, 77],
             may: vec![0, 0, 0, 0, 1, 1, 1, 0, 2, 0, 0, 0, 77],
             marks: vec![1, 1, 1, 0, 77],
-            classes: vec![3, 3, 1, 0, 77],
+            classes: vec![3, 4, 3, 4, 1, 4, 0, 0, 77],
         }
     }
 

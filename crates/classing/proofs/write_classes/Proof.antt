@@ -1,29 +1,35 @@
 use borrow.Author.Needs.{needs}
-use Prim.Native.Nat.{ℕ, _≤_, _-_}
+use Prim.Native.Nat.{ℕ, _+_, _*_, _/_, _%_, _≤_, _-_}
 use mathlib.Core.List.{List}
-use mathlib.Core.Path.{_≡_, _∙_}
+use mathlib.Core.Path.{_≡_, ap, sym, _∙_}
 use native.Mathlib.Omega.{arith}
 use denote.Ref.{now}
-use lib.ListN.{length}
+use lib.ListN.{length, length-set}
 use Rattle.lists.specs.Loops.{patch}
 use Rattle.lists.proofs.Loops.{patch-turn0, patch-written}
+use Rattle.chart.specs.Geometry.{mostTouches}
 use Rattle.flow.specs.Flow.{cellAt}
 use Rattle.classes.specs.Class.{nodeClass}
 use Rattle.plan.specs.Listed.{nodesIn, planIn}
 use Rattle.tables.specs.Lent.{Lent, tableOf}
 use Rattle.tables.specs.Contract.{lentTable}
+use Rattle.classing.specs.declared.Classes.{Classes}
+use Rattle.classes.proofs.Places.{first-place, second-place}
 use Rattle.classing.proofs.write_classes.Statement.{statement}
 use Rattle.classing.proofs.write_classes.Tie as tie
 
--- The class of each node, as it is defined.
+-- Class k of a node, and the classes of all nodes in one list, as they are defined.
+abbrev classOf : List ℕ → List ℕ → Lent → ℕ → ℕ → ℕ
+classOf columns plan lent n k = nodeClass (planIn columns plan) n k (cellAt (tableOf (planIn columns plan) lent) n)
+
 abbrev classAt : List ℕ → List ℕ → Lent → ℕ → ℕ
-classAt columns plan lent n = nodeClass (planIn columns plan) n (cellAt (tableOf (planIn columns plan) lent) n)
+classAt columns plan lent i = classOf columns plan lent (i / mostTouches) (i % mostTouches)
 
 abbrev Inv-loop : tie.InvT-loop
 Inv-loop columns plan must may marks classes₀ nodes n₀ classes n =
     (n ≤ nodes)
     × ((length classes ≡ length classes₀)
-    × (classes ≡ patch classes₀ 0 n (classAt columns plan (record { must = must; may = may; marks = marks }))))
+    × (classes ≡ patch classes₀ 0 (mostTouches * n) (classAt columns plan (record { must = must; may = may; marks = marks }))))
 
 abbrev μ-loop : tie.MeasureT-loop
 μ-loop columns plan must may marks classes₀ nodes n₀ classes n = nodes - n
@@ -34,11 +40,23 @@ nodes-in-requires c κs = search needs
 loop-holds : tie.Need-loop-holds Inv-loop μ-loop
 loop-holds c = search needs
 
-class-at-requires : tie.Need-class-at-requires Inv-loop μ-loop
-class-at-requires c κs = (c .before .before .before .before .before .before .before .before .before .pre .0, (c .before .before .before .before .before .before .before .before .before .pre .1 .0, search needs))
+classes-at-requires : tie.Need-classes-at-requires Inv-loop μ-loop
+classes-at-requires c κs = (c .before .before .before .before .before .before .before .before .before .pre .0, (c .before .before .before .before .before .before .before .before .before .pre .1 .0, search needs))
+
+mul-classes : tie.Need-mul-classes Inv-loop μ-loop
+mul-classes c = search needs
 
 slice-write-classes : tie.Need-slice-write-classes Inv-loop μ-loop
-slice-write-classes c = search needs
+slice-write-classes c = omega (arith, c .before .before .before .before .before .before .before .before .before .before .pre .1 .1, c .before .before .before .nodes-in .ensures, c .before .before .loop .inv .1 .0, c .before .loop-test .taken)
+
+mul-classes-2 : tie.Need-mul-classes-2 Inv-loop μ-loop
+mul-classes-2 c = search needs
+
+add-classes : tie.Need-add-classes Inv-loop μ-loop
+add-classes c = search needs
+
+slice-write-classes-2 : tie.Need-slice-write-classes-2 Inv-loop μ-loop
+slice-write-classes-2 c = simp length-set (omega (arith, c .before .before .before .before .before .before .before .before .before .before .pre .1 .1, c .before .before .before .nodes-in .ensures, c .before .before .loop .inv .1 .0, c .before .loop-test .taken))
 
 add-n : tie.Need-add-n Inv-loop μ-loop
 add-n c = search needs
@@ -48,7 +66,16 @@ loop-less c = search needs
 
 loop-again : tie.Need-loop-again Inv-loop μ-loop
 loop-again c =
-    (search needs, (search needs, patch-turn0 _ _ _ _ _ (c .before .before .loop .inv .1 .1) (c .class-at .ensures)))
+    let a = c .before .before .before .before .before .before .before .before .before .before .args in
+    let l = c .before .before .loop in
+    let f : ℕ → ℕ = classAt (now (a .columns)) (now (a .plan)) (lentTable (a .must) (a .may) (a .marks)) in
+    let class : ℕ → ℕ → ℕ = classOf (now (a .columns)) (now (a .plan)) (lentTable (a .must) (a .may) (a .marks)) in
+    let first : class (l .n) 0 ≡ f (mostTouches * l .n) = λ i. class (sym (first-place (l .n) .0) i) (sym (first-place (l .n) .1) i) in
+    let second : class (l .n) 1 ≡ f (mostTouches * l .n + 1) = λ i. class (sym (second-place (l .n) .0) i) (sym (second-place (l .n) .1) i) in
+    let once = patch-turn0 (a .classes .now) (mostTouches * l .n) f (l .classes) (c .classes-at .result .first) (l .inv .1 .1) (ap (λ (both : Classes). both .first) (c .classes-at .ensures) ∙ first) in
+    let twice = patch-turn0 (a .classes .now) (mostTouches * l .n + 1) f _ (c .classes-at .result .second) once (ap (λ (both : Classes). both .second) (c .classes-at .ensures) ∙ second) in
+    let places : mostTouches * l .n + 1 + 1 ≡ mostTouches * (l .n + 1) = omega arith in
+    (search needs, (search needs, twice ∙ ap (λ (k : ℕ). patch (a .classes .now) 0 k f) places))
 
 same-length : tie.Need-same-length Inv-loop μ-loop
 same-length c = search needs
@@ -59,7 +86,7 @@ returns c =
     let a = s .args in
     let e : c .before .loop .n ≡ nodesIn (now (a .plan)) = omega (arith, c .before .before .nodes-in .ensures) in
     (rw e at (c .before .loop .inv .1 .1))
-    ∙ patch-written (a .classes .now) (nodesIn (now (a .plan))) (classAt (now (a .columns)) (now (a .plan)) (lentTable (a .must) (a .may) (a .marks))) (s .pre .1 .1)
+    ∙ patch-written (a .classes .now) (mostTouches * nodesIn (now (a .plan))) (classAt (now (a .columns)) (now (a .plan)) (lentTable (a .must) (a .may) (a .marks))) (s .pre .1 .1)
 
 pub write-classes-spec : {M : Type 1} → statement M
 write-classes-spec =
@@ -69,8 +96,12 @@ write-classes-spec =
     μ-loop
     nodes-in-requires
     loop-holds
-    class-at-requires
+    classes-at-requires
+    mul-classes
     slice-write-classes
+    mul-classes-2
+    add-classes
+    slice-write-classes-2
     add-n
     loop-less
     loop-again

@@ -5,8 +5,8 @@ use denote.Ref.{now}
 use lib.ListN.{length, getD, replicate}
 use Rattle.lists.proofs.Loops.{length-patch}
 use Rattle.chart.specs.Geometry.{mostBlocks, setOf}
-use Rattle.chart.proofs.Answers.{found-nodes, found-entry, found-length, found-blocks, found-array, found-ascending}
-use Rattle.drawing.proofs.Planning.{chart-draws}
+use Rattle.chart.proofs.Answers.{found-nodes, found-entry, found-length, found-blocks, found-array, found-ascending, found-ends}
+use Rattle.drawing.proofs.Planning.{found-narrow, chart-draws}
 use Rattle.drawing.proofs.draw_chart.Statement.{statement}
 use Rattle.drawing.proofs.draw_chart.Tie as tie
 
@@ -36,7 +36,7 @@ draw-nodes-requires : tie.Need-draw-nodes-requires
 draw-nodes-requires c κs =
     let s = c .before .before .before .before .before .before .before .before .before .before .before .before .before .before .before .before in
     let found = s .pre .0 in
-    ((found-length found, omega (arith, found-nodes found, c .before .before .before .put-head .kept, s .pre .1 .1)), ((found-blocks found, found-array found), found-ascending found))
+    ((found-length found, omega (arith, found-nodes found, c .before .before .before .put-head .kept, s .pre .1 .1)), ((found-blocks found, found-array found), (found-ascending found, (found-ends found, found-narrow found))))
 
 same-length : tie.Need-same-length
 same-length c = search needs

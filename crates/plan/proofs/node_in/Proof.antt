@@ -1,6 +1,7 @@
 use borrow.Author.Needs.{needs}
 use Prim.Native.Nat.{_/_, _%_}
 use mathlib.Core.Path.{_≡_, _∙_}
+use Rattle.chart.specs.Geometry.{mostBlocks}
 use Rattle.plan.specs.Listed.{plannedOf, nodeFrom}
 use Rattle.plan.proofs.node_in.Statement.{statement}
 use Rattle.plan.proofs.node_in.Tie as tie
@@ -50,7 +51,7 @@ wide-requires-3 c κs = search needs
 returns : tie.Need-returns
 returns c =
     let deed = c .before .before .before .before .before .wide in
-    let planned : c .before .before .before .before .planned-of .result ≡ plannedOf (deed .result % 4) (deed .result / 16) = c .before .before .before .before .planned-of .ensures in
+    let planned : c .before .before .before .before .planned-of .result ≡ plannedOf (deed .result % 4) (deed .result / 16 % mostBlocks) (deed .result / 16 / mostBlocks) = c .before .before .before .before .planned-of .ensures in
     (λ i. record { what = planned i; targets = record { outs = deed .result / 4 % 4; first = c .before .before .wide2 .result; second = c .wide3 .result } })
     ∙ (λ i. nodeFrom (deed .ensures i) (c .before .before .wide2 .ensures i) (c .wide3 .ensures i))
 

@@ -1,21 +1,20 @@
 use borrow.Author.Needs.{needs}
 use borrow.Author.Tests.{not-true, not-false, lt-ltb, le-ltb}
 use mathlib.Core.Bool.{Bool, _&&_}
-use mathlib.Core.Path.{_≡_, ap, _∙_}
+use mathlib.Core.Path.{ap, _∙_}
 use native.Mathlib.Omega.{arith}
 use Prim.Native.Nat.{ℕ}
 use denote.Ref.{now}
 use lib.Dec.{eqb}
-use lib.ListN.{length, replicate}
-use Rattle.chart.specs.Geometry.{mostNodes}
+use lib.ListN.{length}
 use Rattle.ages.specs.Plan.{Plan}
-use Rattle.costs.specs.Costs.{Figures, lowRate, highRate}
-use Rattle.plan.specs.Listed.{nodesIn, planIn}
+use Rattle.costs.specs.Costs.{Figures}
+use Rattle.plan.specs.Listed.{planIn}
 use Rattle.tables.specs.Lent.{Lent}
 use Rattle.tables.specs.Contract.{lentTable}
 use Rattle.totals.specs.declared.sums.Sums.{Sums}
-use Rattle.totals.specs.Inner.{figuresOf, sumsTo}
-use Rattle.totals.proofs.Summing.{sum-is}
+use Rattle.totals.specs.Inner.{figuresOf}
+use Rattle.totals.proofs.Summing.{low-is, high-is}
 use Rattle.totals.proofs.Answering.{length-answer, fit-rooms, costs-answer, crossed-answer, unmarked-answer, sums-answer}
 use Rattle.totals.proofs.total_drawn.Statement.{statement}
 use Rattle.totals.proofs.total_drawn.Tie as tie
@@ -77,35 +76,24 @@ returns-4 c =
     unmarked-answer (drawn s) (lent s) (figures s) (n .result) (n .ensures) (not-false (whole s (n .result)) (c .before .before .before .before .before .before .if1 .left)) (le-ltb _ _ (c .before .before .before .before .if2 .left)) (crossed .result) (crossed .ensures) (le-ltb _ _ (c .before .before .if3 .left))
     (unmarked .result) (unmarked .ensures) (lt-ltb _ _ (c .if4 .taken))
 
-slice-aggregate-write-classes : tie.Need-slice-aggregate-write-classes
-slice-aggregate-write-classes c = search needs
-
-write-classes-requires : tie.Need-write-classes-requires
-write-classes-requires c κs = (c .before .before .before .before .before .before .before .before .before .before .before .before .before .before .before .before .pre .0, (c .before .before .before .before .before .before .before .before .before .before .before .before .before .before .before .before .pre .1, c .before .before .before .before .before .before .before .before .before .before .before .before .before .before .before .before .pre .0 .few-nodes))
-
-slice-aggregate-sum-nodes : tie.Need-slice-aggregate-sum-nodes
-slice-aggregate-sum-nodes c = search needs
-
 sum-nodes-requires : tie.Need-sum-nodes-requires
 sum-nodes-requires c κs =
-    let s = c .before .before .before .before .before .before .before .before .before .before .before .before .before .before .before .before .before .before .before in
-    let n = c .before .before .before .before .before .before .before .before .before .before .before .nodes-in in (
-      (omega (arith, s .pre .0 .few-nodes, n .ensures), omega (arith, s .pre .0 .few-nodes, n .ensures, c .before .before .write-classes .kept)),
-      fit-rooms (drawn s) (lent s) (figures s) (n .result) (n .ensures) (not-false (whole s (n .result)) (c .before .before .before .before .before .before .before .before .before .before .if1 .left)),
-    )
+    let s = c .before .before .before .before .before .before .before .before .before .before .before .before .before .before .before in
+    let n = c .before .before .before .before .before .before .before .nodes-in in
+    let rooms = fit-rooms (drawn s) (lent s) (figures s) (n .result) (n .ensures) (not-false (whole s (n .result)) (c .before .before .before .before .before .before .if1 .left)) in
+    (s .pre .0, (s .pre .1, (omega (arith, rooms .0, n .ensures), omega (arith, rooms .1, n .ensures))))
 
 returns-5 : tie.Need-returns-5
 returns-5 c =
-    let s = c .before .before .before .before .before .before .before .before .before .before .before .before .before .before .before .before .before .before .before .before in
-    let n = c .before .before .before .before .before .before .before .before .before .before .before .before .nodes-in in
-    let crossed = c .before .before .before .before .before .before .before .before .first-crossed in
-    let unmarked = c .before .before .before .before .before .before .first-floor-at-unmarked in
-    let w = c .before .before .before .write-classes in
-    let total = sum-is (now (s .args .columns)) (now (s .args .plan)) (lent s) (w .last .1 .1 .1 .1 .1 .0) (replicate mostNodes 0) (w .ensures) in
-    let sums : c .sum-nodes .result ≡ sumsTo (figures s) (w .last .1 .1 .1 .1 .1 .0) (nodesIn (now (s .args .plan))) = c .sum-nodes .ensures ∙ ap (sumsTo (figures s) (w .last .1 .1 .1 .1 .1 .0)) (n .ensures) in
-    sums-answer (drawn s) (lent s) (figures s) (n .result) (n .ensures) (not-false (whole s (n .result)) (c .before .before .before .before .before .before .before .before .before .before .before .if1 .left)) (le-ltb _ _ (c .before .before .before .before .before .before .before .before .before .if2 .left)) (crossed .result) (crossed .ensures) (le-ltb _ _ (c .before .before .before .before .before .before .before .if3 .left))
-    (unmarked .result) (unmarked .ensures) (le-ltb _ _ (c .before .before .before .before .before .if4 .left)) (c .sum-nodes .result .low) (c .sum-nodes .result .high)
-    (ap (λ (t : Sums). t .low) sums ∙ total (lowRate (figures s .costs)) (figures s .floors)) (ap (λ (t : Sums). t .high) sums ∙ total (highRate (figures s .costs)) (figures s .ceilings))
+    let s = c .before .before .before .before .before .before .before .before .before .before .before .before .before .before .before .before in
+    let n = c .before .before .before .before .before .before .before .before .nodes-in in
+    let crossed = c .before .before .before .before .first-crossed in
+    let unmarked = c .before .before .first-floor-at-unmarked in
+    let sums = c .sum-nodes .ensures in
+    sums-answer (drawn s) (lent s) (figures s) (n .result) (n .ensures) (not-false (whole s (n .result)) (c .before .before .before .before .before .before .before .if1 .left)) (le-ltb _ _ (c .before .before .before .before .before .if2 .left)) (crossed .result) (crossed .ensures) (le-ltb _ _ (c .before .before .before .if3 .left))
+    (unmarked .result) (unmarked .ensures) (le-ltb _ _ (c .before .if4 .left)) (c .sum-nodes .result .low) (c .sum-nodes .result .high)
+    (ap (λ (t : Sums). t .low) sums ∙ low-is (now (s .args .columns)) (now (s .args .plan)) (lent s) (figures s))
+    (ap (λ (t : Sums). t .high) sums ∙ high-is (now (s .args .columns)) (now (s .args .plan)) (lent s) (figures s))
 
 pub total-drawn-spec : {M : Type 1} → statement M
 total-drawn-spec =
@@ -118,8 +106,5 @@ total-drawn-spec =
     returns-3
     first-floor-at-unmarked-requires
     returns-4
-    slice-aggregate-write-classes
-    write-classes-requires
-    slice-aggregate-sum-nodes
     sum-nodes-requires
     returns-5)

@@ -2,7 +2,7 @@
 
 use charts::random_blocks::of_blocks;
 use charts::random_charts::of_nodes;
-use charts::Chart;
+use charts::{Chart, Record};
 use compare::ask::{self, LentBounds, ANALYSE, CHECK, TOTAL};
 use compare::group::Group;
 use compare::guarded::{short, Guarded};
@@ -30,13 +30,14 @@ fn choices<const PARTS: usize>(used: [usize; PARTS]) -> impl Iterator<Item = [us
     })
 }
 
-/// The sample, one without blocks, one node alone, and some larger ones.
+/// The sample, one without blocks, one node alone, one that touches two blocks, and some larger ones.
 fn charts(group: &mut Group) -> Vec<Vec<u8>> {
     let random = &mut group.random;
     vec![
         Chart::sample().bytes(),
         Chart::steps(3).bytes(),
         Chart::reads(&[0]).bytes(),
+        Chart::of(vec![Record::read(0x0E).sized(2)]).bytes(),
         of_blocks(random, 7, 3).bytes(),
         of_blocks(random, MOST + 6, MOST).bytes(),
     ]
@@ -84,7 +85,8 @@ fn every_choice_of_lengths_for_the_checker_and_the_totals() {
     let mut group = Group::of("buffers of the checker and the totals");
     for chart in charts(&mut group) {
         let analysis = Analysis::of(&chart).expect("the chart is accepted");
-        let [_, must, may, marks, nodes] = used(analysis.header.nodes, analysis.header.blocks);
+        let nodes = analysis.header.nodes;
+        let [_, must, may, marks, _] = used(nodes, analysis.header.blocks);
         group.hold(&chart, |random, tally, chart| {
             for [must, may, marks, floors, ceilings] in choices([must, may, marks, nodes, nodes]) {
                 let table = LentTable::exactly(random, &of_lengths(&analysis, [must, may, marks]));

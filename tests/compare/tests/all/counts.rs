@@ -2,10 +2,11 @@
 
 use charts::random_blocks::of_blocks;
 use charts::random_charts::of_nodes;
-use charts::Chart;
+use charts::{Chart, Record};
 use compare::ask::READ;
 use compare::features::{BLOCKS, NODES};
 use compare::group::Group;
+use compare::sizes::TOO_MANY;
 use second::limits;
 
 const MOST: u64 = limits::BLOCKS as u64;
@@ -36,6 +37,24 @@ fn every_number_of_blocks() {
     let tally = group.end();
     tally.expect_each(BLOCKS, 0..=limits::BLOCKS, 3);
     tally.expect_each(READ, 10..=10, 3 * 26);
+}
+
+#[test]
+fn every_number_of_blocks_of_which_one_node_brings_two() {
+    let mut group = Group::of("two blocks of one node");
+    for blocks in 2..=MOST + 2 {
+        for place in [0, (blocks - 2) / 2, blocks - 2] {
+            // far from the others, which are read alone
+            let both = Record::read(u64::from(u32::MAX) / 2).sized(2);
+            let mut records: Vec<Record> = (0..blocks - 2).map(|block| Record::read(block * 16)).collect();
+            records.insert(place as usize, both);
+            group.trial(&Chart::of(records).in_a_row().bytes());
+        }
+    }
+    let tally = group.end();
+    tally.expect_each(BLOCKS, 2..=limits::BLOCKS, 3);
+    // the two are the last that fits and one too many, or the first two of all, and then a node behind them brings one too many
+    assert_eq!([0, 1, 2, 3].map(|kind| tally.count(TOO_MANY, kind)), [4, 1, 0, 1]);
 }
 
 /// The last node's block is looked for among all the others: it is each of them in turn, and each that could stand between two of them,

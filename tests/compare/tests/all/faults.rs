@@ -25,7 +25,7 @@ impl Draft {
 /// Puts a fault into a draft.
 type Fault = fn(&mut Draft);
 
-const FAULTS: [Fault; 23] = [
+const FAULTS: [Fault; 25] = [
     |draft| draft.cut = draft.chart.bytes().len(),
     |draft| draft.cut = draft.chart.bytes().len() - 7,
     |draft| draft.chart.header.edition = 0,
@@ -42,10 +42,12 @@ const FAULTS: [Fault; 23] = [
     |draft| draft.chart.header.tail = 0x80,
     |draft| draft.cut += 1,
     |draft| draft.more += 8,
-    |draft| draft.chart.records[0].spare = 1,
+    |draft| draft.chart.records[0].size = 1,
+    |draft| draft.chart.records[2].size = 15,
     |draft| draft.chart.records[3].kind = 3,
     |draft| draft.chart.records[4] = draft.chart.records[4].twins(5),
     |draft| draft.chart.records[5].outs = 3,
+    |draft| draft.chart.records[6] = draft.chart.records[6].doing(Record::read(0xFFFF_FFFD).sized(2)),
     |draft| draft.chart.records[limits::BLOCKS + 6].first = draft.chart.header.nodes,
     |draft| reads(draft, limits::BLOCKS + 1),
     |draft| reads(draft, limits::BLOCKS + 6),

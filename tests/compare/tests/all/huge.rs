@@ -25,7 +25,7 @@ fn a_chart_with_2_to_the_32_bytes_behind_it_is_refused() {
 fn buffers_of_2_to_the_32_are_long_enough() {
     let chart = Chart::sample().bytes();
     let mut must = vec![0; WIDE];
-    let (mut blocks, mut may, mut marks, mut classes) = ([9; 1], [9; 3], [9; 3], [9; 3]);
+    let (mut blocks, mut may, mut marks, mut classes) = ([9; 1], [9; 3], [9; 3], [9; 6]);
     let lent = Buffers {
         blocks: &mut blocks,
         must: &mut must,
@@ -36,7 +36,7 @@ fn buffers_of_2_to_the_32_are_long_enough() {
     assert_eq!(analyse(&chart, PASSES, lent), Ok(Settled { passes: 2, blocks: 1 }));
     assert_eq!(
         (&must[..4], may, marks, classes),
-        (&[2, 2, 0, 0][..], [2, 0, 0], [1; 3], [4, 3, 1])
+        (&[2, 2, 0, 0][..], [2, 0, 0], [1; 3], [4, 4, 3, 4, 1, 4])
     );
     let table = Table {
         must: &must,

@@ -13,5 +13,6 @@ mod limits;
 mod overlapping;
 mod random;
 mod records;
+mod straddles;
 mod tables;
 mod totals;

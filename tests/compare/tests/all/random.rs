@@ -8,6 +8,8 @@ use compare::features::{BLOCKS, CLASS, GEOMETRIES, GEOMETRY, LIKE, NODES, PASSES
 use compare::raw::{ANSWER_LIST, HEADER_LIST, READ_ROOM};
 use compare::run::run;
 use compare::settings::{Settings, LEAST};
+use compare::sizes::{NO_SIZE, PAST_THE_END, SIZED_STEP, TOO_MANY};
+use compare::straddles::{self, BOTH, SETS, SIZE};
 use compare::tables::{ALMOST, NOISE, PASSING};
 use compare::tally::Tally;
 use compare::trial::FAULTS;
@@ -37,6 +39,8 @@ fn the_archive_and_the_second_program_agree_on_random_charts() {
         expect_answers(&tally);
         expect_charts(&tally);
         expect_twins(&tally);
+        expect_straddles(&tally);
+        expect_sizes(&tally);
         expect_crowds(&tally);
         expect_edges(&tally);
         expect_lent(&tally);
@@ -57,12 +61,15 @@ fn expect_answers(tally: &Tally) {
 
 fn expect_charts(tally: &Tally) {
     tally.expect_each(GEOMETRY, 0..=GEOMETRIES - 1, 5);
-    tally.expect_each(CLASS, 0..=4, 10_000);
+    for touch in CLASS {
+        tally.expect_each(touch, 0..=4, 10_000);
+    }
     tally.expect_each(PASSES, 1..=12, 100);
     for like in LIKE {
         tally.expect(like, 500);
     }
-    tally.expect_each(MET, 1..=4, 50_000);
+    tally.expect_each(MET[0], 1..=4, 50_000);
+    tally.expect_each(MET[1], 1..=4, 20_000);
     tally.expect_each(WALK, 0..=1, 50_000);
     tally.expect(SURE, 10_000);
 }
@@ -70,9 +77,28 @@ fn expect_charts(tally: &Tally) {
 /// Each is refused where the first broken record is, whether that is the one with two arrows to one node or another.
 fn expect_twins(tally: &Tally) {
     let [alone, before, behind] = TWINS;
-    tally.expect(alone, 2_500);
+    tally.expect(alone, 2_000);
     tally.expect(before, 100);
     tally.expect(behind, 100);
+}
+
+/// Two blocks in one set, in neighbouring ones and around the end, with every two classes; and many charts that have none of it.
+fn expect_straddles(tally: &Tally) {
+    tally.expect_each(SIZE, 0..=5, 10_000);
+    tally.expect_each(SETS, 0..=2, 3_000);
+    tally.expect_each(BOTH, 0..=8, 1_000);
+    for like in straddles::LIKE {
+        tally.expect(like, 500);
+    }
+    tally.expect(straddles::LIKE[5], 50_000);
+}
+
+/// Sizes that are refused, and blocks that are.
+fn expect_sizes(tally: &Tally) {
+    tally.expect_each(NO_SIZE, 3..=15, 20);
+    tally.expect_each(SIZED_STEP, 1..=15, 20);
+    tally.expect_each(PAST_THE_END, 1..=2, 100);
+    tally.expect_each(TOO_MANY, 0..=3, 20);
 }
 
 /// Most charts reach all their nodes; sets are filled and more than filled; one bit tells blocks apart.

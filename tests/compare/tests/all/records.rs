@@ -1,8 +1,9 @@
-//! Every value of a record's small fields with each other, and both sides of each boundary of its wide ones.
+//! Every value of a record's small fields, with each other or by kind, and both sides of each boundary of its wide ones.
 
 use charts::{Chart, Record};
 use compare::ask::READ;
 use compare::group::Group;
+use compare::sizes::{NO_SIZE, PAST_THE_END, SIZED_STEP};
 use compare::twins::TWINS;
 use second::limits::NODES;
 
@@ -16,13 +17,13 @@ fn records(nodes: u64) -> impl Iterator<Item = Record> {
         arrows().into_iter().flat_map(move |first| {
             arrows().into_iter().flat_map(move |second| {
                 [0, 1, HIGHEST].into_iter().flat_map(move |address| {
-                    [0, 1, 8, 15].into_iter().map(move |spare| Record {
+                    [0, 2, 3, 15].into_iter().map(move |size| Record {
                         kind,
                         address,
                         outs,
                         first,
                         second,
-                        spare,
+                        size,
                     })
                 })
             })
@@ -52,9 +53,10 @@ fn every_record_at_its_boundaries_in_small_charts() {
         sweep(&mut group, nodes);
     }
     let tally = group.end();
-    // seven kinds with addresses; with 1, 2, 3 and 4 nodes in 1, 2, 3 and 3 places; the ends are 0 twice where there is one node
-    assert_eq!(tally.count(READ, 0), 7 * (8 + 2 * 5 + 3 * 5 + 3 * 5));
-    assert_eq!(tally.count(TWINS[0], 0), 7 * (4 + 2 * 2 + 3 * 2 + 3 * 2));
+    // a step, and reads and writes of a byte at three addresses and of four at two; with 1, 2, 3 and 4 nodes in 1, 2, 3 and 3 places; the ends
+    // are 0 twice where there is one node
+    assert_eq!(tally.count(READ, 0), (1 + 2 * 5) * (8 + 2 * 5 + 3 * 5 + 3 * 5));
+    assert_eq!(tally.count(TWINS[0], 0), (1 + 2 * 5) * (4 + 2 * 2 + 3 * 2 + 3 * 2));
     tally.expect_each(READ, 9..=9, 10_000);
 }
 
@@ -115,6 +117,50 @@ fn each_bit_and_each_two_bits_of_the_sample_flipped() {
         }
     }
     group.end().expect_each(READ, 2..=9, 10);
+}
+
+#[test]
+fn every_size_code_by_kind() {
+    let mut group = Group::of("size codes");
+    for (kind, size) in (0..4).flat_map(|kind| (0..16).map(move |size| (kind, size))) {
+        for (address, place) in [(0, 0), (0x0F, 1), (0x40, 2)] {
+            let mut chart = Chart::straight(&[0x00, 0x10, 0x20]);
+            let record = Record {
+                kind,
+                address: if kind == 0 { 0 } else { address },
+                ..Record::step().sized(size)
+            };
+            chart.records[place] = chart.records[place].doing(record);
+            group.trial(&chart.bytes());
+        }
+    }
+    let tally = group.end();
+    assert_eq!(tally.count(READ, 0), 3 * (1 + 3 + 3));
+    assert_eq!(tally.count(READ, 9), 3 * (15 + 13 + 13 + 16));
+    tally.expect_each(SIZED_STEP, 1..=15, 3);
+    tally.expect_each(NO_SIZE, 3..=15, 6);
+}
+
+#[test]
+fn the_last_addresses_with_every_size_and_every_line() {
+    let mut group = Group::of("the last addresses");
+    for (line, size) in (2..=8).flat_map(|line| (0..3).map(move |size| (line, size))) {
+        for less in 0..1 << (line + 1) {
+            for reference in [Record::read(HIGHEST - less), Record::write(HIGHEST - less)] {
+                let mut chart = Chart::of(vec![reference.sized(size), Record::read(HIGHEST - less)]).in_a_row();
+                chart.header.line = line;
+                group.trial(&chart.bytes());
+            }
+        }
+    }
+    let tally = group.end();
+    // of two bytes the last address is past the end, of four the last three
+    assert_eq!(tally.count(READ, 9), 2 * 7 * (1 + 3));
+    assert_eq!([1, 2].map(|size| tally.count(PAST_THE_END, size)), [2 * 7, 2 * 7 * 3]);
+    assert_eq!(
+        tally.count(READ, 0),
+        2 * (3 * (8 + 16 + 32 + 64 + 128 + 256 + 512) - 7 * (1 + 3))
+    );
 }
 
 #[test]

@@ -121,6 +121,18 @@ fn every_table_of_two_nodes_and_two_blocks() {
 }
 
 #[test]
+fn every_table_of_one_node_that_touches_two_blocks() {
+    let mut charts = Vec::new();
+    for (sets, ways) in [(0, 1), (0, 2), (1, 1), (1, 2)] {
+        for (start, arrows) in [(0, &[][..]), (1, &[]), (0, &[0]), (1, &[0])] {
+            let records = vec![with_arrows(Record::read(0x0E).sized(2), arrows)];
+            charts.push(Chart::of(records).shaped(sets, ways, start).bytes());
+        }
+    }
+    sweep("tables of one node that touches two blocks", charts);
+}
+
+#[test]
 fn every_table_of_one_node_and_one_block() {
     let mut charts = Vec::new();
     for ways in 1..=8 {

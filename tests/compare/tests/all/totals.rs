@@ -127,13 +127,13 @@ fn costs_and_bounds_at_their_ends() {
     }
 }
 
-/// The most reads, all but some of them hits or all of them misses, at the highest costs and bounds.
+/// The most reads, each of two blocks, all but some of them hits or all of them misses, at the highest costs and bounds.
 #[test]
 fn the_largest_totals() {
     let mut group = Group::of("the largest totals");
-    for blocks in [1, BLOCKS as u64] {
-        let reads: Vec<u64> = (0..NODES as u64).map(|node| node % blocks * 16).collect();
-        let chart = Chart::straight(&reads).bytes();
+    for blocks in [2, BLOCKS as u64] {
+        let read = |node| Record::read(node % (blocks - 1) * 16 + 15).sized(1);
+        let chart = Chart::of((0..NODES as u64).map(read).collect()).in_a_row().bytes();
         let highest = Question {
             costs: Costs {
                 hit: 65_535,

@@ -8,7 +8,7 @@ use second::chart::Chart;
 use second::class::Class;
 use second::header::Start;
 use second::lending::Lending;
-use second::limits::PASSES;
+use second::limits::{PASSES, TOUCHES};
 use second::passes::settle;
 use second::table::Table;
 
@@ -91,7 +91,8 @@ pub fn looser(random: &mut Random, bytes: &[u8], chart: &Chart, tighter: &Lendin
     }
     settle(chart, &mut table, PASSES).expect("ages change so often at most");
     for node in 0..nodes {
-        lending.classes[node] = Class::of(chart, lending.lent(), node) as u8;
+        let both = Class::of(chart, lending.lent(), node).map(|class| class as u8);
+        lending.classes[TOUCHES * node..][..TOUCHES].copy_from_slice(&both);
     }
     assert_eq!(lending.check(bytes), Ok(true));
     lending

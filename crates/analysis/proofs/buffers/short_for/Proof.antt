@@ -17,8 +17,11 @@ mul-used c =
     let used = used-is (c .before .nodes-in .ensures) (c .blocks-in .ensures) in
     omega arith
 
+mul-result : tie.Need-mul-result
+mul-result c = omega (arith, c .before .before .before .before .before .before .before .before .pre .1 .0, c .before .nodes-in .ensures)
+
 returns : tie.Need-returns
 returns c = rw (c .before .nodes-in .ensures, c .blocks-in .ensures)
 
 pub short-for-spec : {M : Type 1} → statement M
-short-for-spec = tie.close (tie.spec nodes-in-requires blocks-in-requires mul-used returns)
+short-for-spec = tie.close (tie.spec nodes-in-requires blocks-in-requires mul-used mul-result returns)

@@ -92,6 +92,9 @@ clear-requires c κs =
       },
     )
 
+mul-fill : tie.Need-mul-fill
+mul-fill c = omega (arith, c .before .before .before .before .before .before .before .before .before .before .before .before .before .before .before .before .before .before .before .before .before .before .before .before .before .before .before .before .before .before .before .before .before .before .before .before .before .before .before .before .before .pre .0 .few-nodes, c .before .before .before .before .before .before .before .before .before .before .before .before .before .before .before .before .before .before .before .before .before .before .before .before .before .before .before .before .before .before .before .before .before .before .nodes-in .ensures)
+
 fill-requires : tie.Need-fill-requires
 fill-requires c κs =
     let s = c .before .before .before .before .before .before .before .before .before .before .before .before .before .before .before .before .before .before .before .before .before .before .before .before .before .before .before .before .before .before .before .before .before .before .before .before .before .before .before .before .before in
@@ -150,6 +153,7 @@ settle-table-spec =
     write-classes-requires
     enum-told
     clear-requires
+    mul-fill
     fill-requires
     same-length
     same-length-2

@@ -1,14 +1,15 @@
 use borrow.Author.Needs.{needs}
-use mathlib.Core.Path.{_≡_, ap}
+use mathlib.Core.Path.{_≡_, sym, ap, subst}
 use Prim.Native.Nat.{_+_, _-_, _≤_}
 use lib.ListN.{length}
 use Rattle.lists.specs.Choice.{first, firstFrom}
 use Rattle.lists.specs.Lists.{padded}
 use Rattle.lists.proofs.Choice.{first-begins, first-passes}
 use Rattle.blocks.specs.Blocks.{gathered}
-use Rattle.blocks.specs.Listing.{Laid}
+use Rattle.blocks.specs.Listing.{LaidAll}
 use Rattle.blocks.proofs.Arrays.{gathered-none, gather-listing, gather-over, gather-within}
 use Rattle.chart.specs.declared.records.Node.{Node}
+use Rattle.chart.specs.Record.{Ends}
 use Rattle.chart.specs.Chart.{recordsIn, blocksAt, overfullAt}
 use Rattle.chart.specs.Geometry.{mostBlocks}
 use Rattle.chart.proofs.Reader.{gather-turn, gathers-over, gathers-all}
@@ -25,7 +26,7 @@ abbrev μ-loop : tie.MeasureT-loop
 μ-loop chart geometry nodes blocks₀ count₀ n₀ blocks count n = nodes - n
 
 -- What a turn brings: the blocks of the nodes up to and with node n.
-turn : (q : tie.After-put-record Inv-loop μ-loop) → Laid mostBlocks (gathered (blocksAt (q .before .before .before .before .before .before .before .args .geometry) (recordsIn (q .before .before .before .before .before .before .before .args .chart .now))) (q .before .before .before .before .loop .n + 1)) (q .put-record .result) (q .put-record .last .0)
+turn : (q : tie.After-put-record Inv-loop μ-loop) → LaidAll mostBlocks (gathered (blocksAt (q .before .before .before .before .before .before .before .args .geometry) (recordsIn (q .before .before .before .before .before .before .before .args .chart .now))) (q .before .before .before .before .loop .n + 1)) (q .put-record .result) (q .put-record .last .0)
 turn q =
     let a = q .before .before .before .before .before .before .before .args in
     let l = q .before .before .before .before .loop in
@@ -43,7 +44,7 @@ loop-holds c =
           search needs,
           (
             rw (gathered-none t),
-            (rw (gathered-none t) (s .pre .1), first-begins (s .args .nodes) (overfullAt (s .args .geometry) (recordsIn (s .args .chart .now)))),
+            (rw (gathered-none t) (s .pre .1 .0), first-begins (s .args .nodes) (overfullAt (s .args .geometry) (recordsIn (s .args .chart .now)))),
           ),
         ),
       ),
@@ -55,8 +56,10 @@ node-at-requires c κs = search needs
 put-record-requires : tie.Need-put-record-requires Inv-loop μ-loop
 put-record-requires c κs =
     let a = c .before .before .before .before .before .before .args in
-    let l = c .before .before .before .loop in
-    gather-listing mostBlocks (blocksAt (a .geometry) (recordsIn (a .chart .now))) (l .n) (l .count) (l .blocks) (l .inv .1 .0) (l .inv .1 .1 .1 .0) (l .inv .1 .1 .1 .1 .0)
+    let l = c .before .before .before .loop in (
+      gather-listing mostBlocks (blocksAt (a .geometry) (recordsIn (a .chart .now))) (l .n) (l .count) (l .blocks) (l .inv .1 .0) (l .inv .1 .1 .1 .0) (l .inv .1 .1 .1 .1 .0),
+      subst (λ (node : Node). Ends (node .what)) (sym (c .before .node-at .ensures)) (c .before .before .before .before .before .before .pre .1 .1 (l .n) (c .before .before .loop-test .taken)),
+    )
 
 same-length : tie.Need-same-length Inv-loop μ-loop
 same-length c = search needs
@@ -87,7 +90,7 @@ loop-again c =
         (
           search needs,
           (
-            g .count-is,
+            g .count-is (c .if1 .left),
             (
               g .laid (c .if1 .left),
               first-passes (a .nodes) (l .n) (overfullAt (a .geometry) (recordsIn (a .chart .now))) (c .before .before .before .before .before .before .loop-test .taken)

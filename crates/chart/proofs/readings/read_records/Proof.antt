@@ -1,6 +1,8 @@
 use borrow.Author.Needs.{needs}
+use mathlib.Core.Path.{refl}
+use native.Mathlib.Omega.{arith}
 use Rattle.chart.specs.Chart.{recordsIn}
-use Rattle.chart.proofs.Reader.{records-broken, records-over, records-keep}
+use Rattle.chart.proofs.Reader.{records-end, records-broken, records-over, records-keep}
 use Rattle.chart.proofs.readings.read_records.Statement.{statement}
 use Rattle.chart.proofs.readings.read_records.Tie as tie
 
@@ -20,7 +22,10 @@ slice-aggregate-gather : tie.Need-slice-aggregate-gather
 slice-aggregate-gather c = search needs
 
 gather-requires : tie.Need-gather-requires
-gather-requires c κs = search needs
+gather-requires c κs =
+    let s = c .before .before .before .before .before in
+    let b = c .before .before .first-broken in
+    (omega arith, (refl, records-end (recordsIn (s .args .chart .now)) (s .args .header .nodes) (b .result) (b .ensures) (c .before .if1 .left)))
 
 enum-known-gathered : tie.Need-enum-known-gathered
 enum-known-gathered c = search needs

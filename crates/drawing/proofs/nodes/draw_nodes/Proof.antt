@@ -1,12 +1,12 @@
 use borrow.Author.Needs.{needs}
 use Prim.Native.Nat.{ℕ, _+_, _≤_, _-_}
 use mathlib.Core.List.{List}
-use mathlib.Core.Path.{_≡_, subst}
+use mathlib.Core.Path.{_≡_, sym, subst}
 use native.Mathlib.Omega.{arith}
 use denote.Ref.{now}
 use lib.ListN.{length, take}
-use lib.Seq.{length-take-le}
-use Rattle.chart.specs.Geometry.{mostBlocks}
+use Rattle.chart.specs.declared.records.Node.{Node}
+use Rattle.chart.specs.Record.{Ends}
 use Rattle.chart.specs.Chart.{nodeAt}
 use Rattle.plan.specs.declared.PlannedNode.{PlannedNode}
 use Rattle.plan.specs.Listed.{nodePlace}
@@ -29,14 +29,17 @@ node-at-requires : tie.Need-node-at-requires Inv-loop μ-loop
 node-at-requires c κs = search needs
 
 planned-of-requires : tie.Need-planned-of-requires Inv-loop μ-loop
-planned-of-requires c κs = search needs
+planned-of-requires c κs =
+    let s = c .before .before .before .before .before .before .before .before in
+    let ends = s .pre .1 .1 .1 .0 (c .before .before .before .loop .n) (c .before .before .loop-test .taken) in
+    (search needs, (search needs, subst (λ (node : Node). Ends (node .what)) (sym (c .before .node-at .ensures)) ends))
 
 put-node-requires : tie.Need-put-node-requires Inv-loop μ-loop
 put-node-requires c κs =
-    let a = c .before .before .before .before .before .before .before .before .before .before .args in
     let s = c .before .before .before .before .before .before .before .before .before .before in
-    let short : length (take (a .count) (now (a .blocks))) ≤ mostBlocks = omega (arith, length-take-le (a .count) (now (a .blocks)) (s .pre .1 .0 .1), s .pre .1 .0 .0) in
-    (search needs, node-narrow (a .header .geometry) (take (a .count) (now (a .blocks))) (now (a .chart)) (c .before .before .before .before .before .loop .n) _ _ (c .before .before .before .node-at .ensures) (c .before .planned-of .ensures) short)
+    let a = s .args in
+    let n = c .before .before .before .before .before .loop .n in
+    (search needs, node-narrow (a .header .geometry) (take (a .count) (now (a .blocks))) (now (a .chart)) n _ _ (c .before .before .before .node-at .ensures) (c .before .planned-of .ensures) (s .pre .1 .1 .1 .1 n (c .before .before .before .before .loop-test .taken)))
 
 add-n : tie.Need-add-n Inv-loop μ-loop
 add-n c = search needs
@@ -54,8 +57,7 @@ loop-again c =
     let planned = c .before .before .before .before .planned-of in
     let node-drawn : PlannedNode = record { what = planned .result; targets = node .result .targets } in
     let room : nodePlace (l .n) + 3 ≤ length (l .plan) = omega (arith, c .before .before .before .before .before .before .before .loop-test .taken, s .pre .0 .1, l .inv .1 .0) in
-    let short : length blocks ≤ mostBlocks = omega (arith, length-take-le (a .count) (now (a .blocks)) (s .pre .1 .0 .1), s .pre .1 .0 .0) in
-    let narrow = node-narrow (a .header .geometry) blocks (now (a .chart)) (l .n) (node .result) (planned .result) (node .ensures) (planned .ensures) short in
+    let narrow = node-narrow (a .header .geometry) blocks (now (a .chart)) (l .n) (node .result) (planned .result) (node .ensures) (planned .ensures) (s .pre .1 .1 .1 .1 (l .n) (c .before .before .before .before .before .before .before .loop-test .taken)) in
     (search needs, (search needs, nodes-turn (l .n) node-drawn (l .plan) _ narrow room (c .before .before .put-node .ensures) (λ m. nodeBy (a .header .geometry) blocks (nodeAt (now (a .chart)) m)) (now (a .plan)) (l .inv .1 .1) (node-planned (a .header .geometry) blocks (now (a .chart)) (l .n) (node .result) (planned .result) (node .ensures) (planned .ensures))))
 
 same-length : tie.Need-same-length Inv-loop μ-loop

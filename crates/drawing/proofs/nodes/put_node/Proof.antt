@@ -10,8 +10,8 @@ use Rattle.drawing.proofs.nodes.put_node.Tie as tie
 kind-number-requires : tie.Need-kind-number-requires
 kind-number-requires c κs = search needs
 
-column-number-requires : tie.Need-column-number-requires
-column-number-requires c κs = search needs
+columns-number-requires : tie.Need-columns-number-requires
+columns-number-requires c κs = search needs
 
 mul-place : tie.Need-mul-place
 mul-place c = search needs
@@ -71,14 +71,14 @@ returns : tie.Need-returns
 returns c =
     let n = c .before .before .before .before .before .before .before .args .n in
     let here : nodePlace n + 0 ≡ nodePlace n = omega arith in
-    rw (here, c .before .before .before .before .kind-number .ensures .0, c .before .before .before .column-number .ensures .0)
+    rw (here, c .before .before .before .before .kind-number .ensures .0, c .before .before .before .columns-number .ensures .0)
 
 pub put-node-spec : {M : Type 1} → statement M
 put-node-spec =
     tie.close
     (tie.spec
     kind-number-requires
-    column-number-requires
+    columns-number-requires
     mul-place
     add-place
     cast-plan

@@ -1,9 +1,10 @@
 use borrow.Author.Needs.{needs}
-use Prim.Native.Nat.{ℕ, _≤_}
+use Prim.Native.Nat.{ℕ, _*_, _≤_}
+use native.Mathlib.Omega.{arith}
 use mathlib.Core.List.{List}
 use mathlib.Core.Path.{_≡_, _∙_, sym, subst}
 use lib.ListN.{length}
-use Rattle.chart.specs.Geometry.{mostNodes, mostBlocks, allPasses}
+use Rattle.chart.specs.Geometry.{mostNodes, mostBlocks, mostTouches, allPasses}
 use Rattle.analysis.specs.Analysis.{Left, analysed}
 use Rattle.report.specs.Report.{reportOf, zeroBuffers}
 use Rattle.report.specs.Ending.{refusedBy}
@@ -37,13 +38,13 @@ slice-aggregate-written : tie.Need-slice-aggregate-written
 slice-aggregate-written c = search needs
 
 -- The analysis leaves as many classes as it was lent.
-classes-long : (c : tie.After-classes3) → length (c .before .before .before .before .before .before .before .analyse .last .1 .1 .1 .1 .1 .1 .0) ≡ mostNodes
+classes-long : (c : tie.After-classes3) → length (c .before .before .before .before .before .before .before .analyse .last .1 .1 .1 .1 .1 .1 .0) ≡ mostTouches * mostNodes
 classes-long c = c .before .before .before .before .before .before .before .analyse .kept .1 .1 .1 .1 .1 .1 .0
 
 written-requires : tie.Need-written-requires
 written-requires c κs =
     let few : c .before .nodes-of .result ≤ mostNodes = c .before .nodes-of .ensures .0 in
-    (few, subst (λ (n : ℕ). c .before .nodes-of .result ≤ n) (sym (classes-long c)) few)
+    (few, subst (λ (n : ℕ). mostTouches * c .before .nodes-of .result ≤ n) (sym (classes-long c)) (omega (arith, few)))
 
 returns : tie.Need-returns
 returns c =

@@ -3,8 +3,8 @@ use Prim.Native.Nat.{_*_, _≤_}
 use native.Mathlib.Omega.{arith}
 use Rattle.totals.specs.Inner.{costsOf, mostAdded}
 use Rattle.totals.proofs.Summing.{low-rate-most, high-rate-most, added-most, nothing-added}
-use Rattle.totals.proofs.sums.add_node.Statement.{statement}
-use Rattle.totals.proofs.sums.add_node.Tie as tie
+use Rattle.totals.proofs.sums.add_touch.Statement.{statement}
+use Rattle.totals.proofs.sums.add_touch.Tie as tie
 
 -- What a reference adds to each sum.
 low-most : (c : tie.After-high-rate) → c .before .before .before .args .floor * c .before .low-rate .result ≤ mostAdded
@@ -49,8 +49,8 @@ add-t18 c = omega (arith, high-most (c .before .before), c .before .before .befo
 returns-2 : tie.Need-returns-2
 returns-2 c = rw (c .before .before .before .before .if1 .left, c .before .before .before .low-rate .ensures, c .before .before .high-rate .ensures)
 
-pub add-node-spec : {M : Type 1} → statement M
-add-node-spec =
+pub add-touch-spec : {M : Type 1} → statement M
+add-touch-spec =
     tie.close
     (tie.spec
     returns

@@ -1,4 +1,4 @@
-/* The loop of docs/RULES.md through the four functions: the chart is read and analysed, the table is checked, and a walk's cost is bounded.
+/* The loop of docs/RULES.md, from its bytes on: the chart is read and analysed, the table is checked, and a walk's cost is bounded.
  *
  *     cc -Iinclude examples/loop.c "$(tests/archive)/libboundary.a" -o loop && ./loop
  *

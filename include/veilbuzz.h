@@ -1,7 +1,7 @@
 /* Veilbuzz for C: does a memory reference always hit the cache, always miss, or can it not be told?
  *
  * Link with the archive that tests/archive makes:  cc -Iinclude mine.c "$(tests/archive)/libboundary.a"
- * examples/loop.c is a whole program, and charts/README.md has the chart's bits.
+ * examples/loop.c and examples/make.c are whole programs, and charts/README.md has the chart's bits.
  *
  * What the functions answer and leave is proved of their source, for any bytes and any lengths: each ends, and writes only what is said
  * here. That the compiled code and these declarations agree with that source is tried by tests (docs/ASSURANCE.md). The functions
@@ -14,7 +14,8 @@
  *   - a buffer that is written overlaps no other of the same call; those that are only read may overlap. Where it does overlap, nothing is
  *     promised: what is answered and left may be anything, and passes may go on for the whole allowance;
  *   - while a call runs, nobody else writes to what it was lent, and nobody else reads what it writes.
- * Costs and bounds have 16 bits: C cuts a larger number without a word, unless -Wconversion is given.
+ * Costs and bounds have 16 bits: C cuts a larger number without a word, unless -Wconversion is given. All numbers that veilbuzz_write takes
+ * have 64 bits, more than any field of a chart: one that is too large for its field arrives whole, and is refused and not cut.
  *
  * Below, N is the chart's number of nodes, B its number of blocks, and A the ways in a set. A reference to one, two or four bytes touches the
  * block of its first byte, and then that of its last byte if that is another; a bare step touches none.
@@ -46,9 +47,9 @@ enum {
 };
 
 /* An answer: numbers, in these places of `answer`. The first two are the same for every function; what comes after them is a function's
- * own, and is 0 after a refusal, 12 apart. A longer `answer` keeps its tail. Where `answer` is shorter than its function's answer, or the
- * `header` of veilbuzz_read shorter than a header, the function does nothing: it returns 11, whatever else might be refused, and nothing
- * that was lent has changed, neither of these lists nor any other buffer. */
+ * own, and is 0 after a refusal, 12 apart. A longer `answer` keeps its tail. Where `answer` is shorter than its function's answer, the
+ * `header` of veilbuzz_read shorter than a header, or the `fields` of veilbuzz_node shorter than a node's, the function does nothing: it
+ * returns 11, whatever else might be refused, and nothing that was lent has changed, neither of these lists nor any other buffer. */
 enum {
     VEILBUZZ_ANSWER_NUMBER = 0, /* the refusal's number, 0 for none; also what the function returns */
     VEILBUZZ_ANSWER_PLACE = 1,  /* the node at fault for refusals 9, 10, 16 and 17, else 0 */
@@ -57,6 +58,18 @@ enum {
 enum {
     VEILBUZZ_READ_BLOCKS = 2, /* B */
     VEILBUZZ_READ_LENGTH = 3
+};
+enum {
+    VEILBUZZ_NODE_THERE = 2, /* 1 where there is such a node */
+    VEILBUZZ_NODE_LENGTH = 3
+};
+enum {
+    VEILBUZZ_BLOCKS_COUNT = 2, /* B */
+    VEILBUZZ_BLOCKS_LENGTH = 3
+};
+enum {
+    VEILBUZZ_WRITE_BYTES = 2, /* the chart's length, 8 + 8 N */
+    VEILBUZZ_WRITE_LENGTH = 3
 };
 enum {
     VEILBUZZ_ANALYSE_PASSES = 2, /* the passes made, the last one included, which changed nothing; after 12 the allowance */
@@ -84,10 +97,35 @@ enum {
     VEILBUZZ_HEADER_LENGTH = 6
 };
 
+/* The fields of a node that veilbuzz_node tells: six numbers, in these places of `fields`. A longer one keeps its tail. */
+enum {
+    VEILBUZZ_FIELDS_KIND = 0,    /* VEILBUZZ_KIND_STEP, VEILBUZZ_KIND_READ or VEILBUZZ_KIND_WRITE */
+    VEILBUZZ_FIELDS_ADDRESS = 1, /* of the first byte; 0 at a bare step */
+    VEILBUZZ_FIELDS_SIZE = 2,    /* VEILBUZZ_SIZE_ONE, VEILBUZZ_SIZE_TWO or VEILBUZZ_SIZE_FOUR; 0 at a bare step */
+    VEILBUZZ_FIELDS_OUTS = 3,    /* how many arrows lead out */
+    VEILBUZZ_FIELDS_FIRST = 4,   /* the node that the first arrow leads to; 0 where there is none */
+    VEILBUZZ_FIELDS_SECOND = 5,  /* that of the second, likewise */
+    VEILBUZZ_FIELDS_LENGTH = 6
+};
+
 /* What the cache holds when a walk begins. */
 enum {
     VEILBUZZ_START_UNKNOWN = 0,
     VEILBUZZ_START_EMPTY = 1
+};
+
+/* What a node does. */
+enum {
+    VEILBUZZ_KIND_STEP = 0, /* a bare step: no reference */
+    VEILBUZZ_KIND_READ = 1,
+    VEILBUZZ_KIND_WRITE = 2
+};
+
+/* How many bytes a reference is to, by its size code. */
+enum {
+    VEILBUZZ_SIZE_ONE = 0,
+    VEILBUZZ_SIZE_TWO = 1,
+    VEILBUZZ_SIZE_FOUR = 2
 };
 
 /* What `classes` says of each touch that a node can make: the first that applies of unreached, where the node's mark is 0; none, where it
@@ -102,7 +140,9 @@ enum {
 };
 
 /* The refusals, rules 11.1 to 11.17 of docs/RULES.md, looked for one after another as they stand here; what is found first is given. Only
- * whether `answer` and `header` are too short is looked at before all others. Where several nodes are at fault, the first one is told.
+ * whether `answer`, `header` and `fields` are too short is looked at before all others. Where several nodes are at fault, the first one is
+ * told. What veilbuzz_write is given is a chart's fields and not its bytes, so that 1, 2 and 7 cannot apply; 3 to 6, 9 and 10 it gives as
+ * veilbuzz_read does, with the same place, and so too where a number is too large for its field.
  *
  *   no.  given if                                               place        what to do
  *    1   the chart has fewer than 8 bytes                       0            give the whole file
@@ -112,14 +152,16 @@ enum {
  *    5   N is 0 or above VEILBUZZ_MOST_NODES                    0            split the chart, or mend the count
  *    6   its entry is not below N                               0            name a node that there is
  *    7   a spare bit of the header is set                       0            clear it
- *    8   it is not 8 + 8 N bytes long                           0            cut it, or add the missing records
- *    9   a record is not as rules 2.1, 2.3, 2.4, 2.9, 2.11      that node    mend that node's record; if both its arrows lead to
- *        and 2.12 have it                                                    one node: one arrow, or the other target; if its last
+ *    8   it is not 8 + 8 N bytes long; a list of fields that    0            cut it, or add the missing records; one number for
+ *        veilbuzz_write is given has not just N numbers                      each node in each list
+ *    9   a record, or what is to be one, is not as rules 2.1,   that node    mend that node's record; if both its arrows lead to
+ *        2.3, 2.4, 2.9, 2.11 and 2.12 have it                                one node: one arrow, or the other target; if its last
  *                                                                            byte is past the last address: a smaller size
  *   10   it has more blocks than VEILBUZZ_MOST_BLOCKS: the      that node    split the chart
  *        node, in node order, that brings the first too many
- *   11   a buffer has fewer places than are used, and is        0            lend N, 2 * N, B or N * B elements, as said below,
- *        neither floors nor ceilings                                         and the lengths named above for `answer` and `header`
+ *   11   a buffer has fewer places than are used, and is        0            lend N, 2 * N, B, N * B or 8 + 8 * N elements, as said
+ *        neither floors, ceilings nor one of the six lists                   below, and the lengths named above for `answer`,
+ *        that veilbuzz_write is given                                        `header` and `fields`
  *   12   every pass of the allowance has changed something      0            allow VEILBUZZ_ENOUGH_PASSES
  *   13   the table does not pass                                0            lend the one that veilbuzz_analyse wrote
  *   14   there are not just N floors, or not just N ceilings    0            one number for each node
@@ -133,6 +175,37 @@ enum {
 uint64_t veilbuzz_read(const uint8_t *chart, size_t chart_length,
                        uint64_t *header, size_t header_length,
                        uint64_t *answer, size_t answer_length);
+
+/* Reads one node of a chart: refusals 1 to 10, and 11 for `fields` and `answer`. Where none of them applies and `node` is below N, its
+ * fields are told in the first six places of `fields`, and answer[VEILBUZZ_NODE_THERE] is 1. Where `node` is not below N there is no such
+ * node: that is no refusal, and answer[VEILBUZZ_NODE_THERE] is 0. Then, and after a refusal, `fields` is as it was. The whole chart is read
+ * for the one node, which takes as long as veilbuzz_read. */
+uint64_t veilbuzz_node(const uint8_t *chart, size_t chart_length,
+                       size_t node,
+                       uint64_t *fields, size_t fields_length,
+                       uint64_t *answer, size_t answer_length);
+
+/* Lists the blocks of a chart: refusals 1 to 11. It uses, and writes, the first B of `blocks`: the block numbers, ascending, as
+ * veilbuzz_analyse writes them; and tells B in `answer`. A longer buffer keeps its tail. After a refusal `blocks` is as it was. */
+uint64_t veilbuzz_blocks(const uint8_t *chart, size_t chart_length,
+                         uint32_t *blocks, size_t blocks_length,
+                         uint64_t *answer, size_t answer_length);
+
+/* Writes a chart: refusals 3 to 6 and 8 to 11. It is given the six numbers of a header, in the order of `header` above, and six lists with
+ * the fields of the nodes, in the order of `fields`: in each list one number for each of the N nodes, node 0 first. The edition is 1 and
+ * spare bits are 0: they are not given. It uses, and writes, the first 8 + 8 * N of `chart`, and tells how many these are in `answer`. A
+ * longer buffer keeps its tail, and VEILBUZZ_LONGEST_CHART bytes are enough for any chart. After a refusal `chart` is as it was.
+ * There and back: veilbuzz_read and veilbuzz_node tell of what it wrote just what it was given; and from what these two tell of a chart it
+ * writes just the bytes of that chart. */
+uint64_t veilbuzz_write(uint64_t line, uint64_t sets, uint64_t ways, uint64_t start, uint64_t nodes, uint64_t entry,
+                        const uint64_t *kinds, size_t kinds_length,
+                        const uint64_t *addresses, size_t addresses_length,
+                        const uint64_t *sizes, size_t sizes_length,
+                        const uint64_t *outs, size_t outs_length,
+                        const uint64_t *firsts, size_t firsts_length,
+                        const uint64_t *seconds, size_t seconds_length,
+                        uint8_t *chart, size_t chart_length,
+                        uint64_t *answer, size_t answer_length);
 
 /* Analyses a chart with at most `allowance` passes: refusals 1 to 12. It uses, and writes, the first
  *   B      of `blocks`: the block numbers, ascending

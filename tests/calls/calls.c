@@ -1,20 +1,20 @@
 /* Makes the calls that 'record' wrote, from standard input, and compares what is returned and what each buffer then holds:
  *
- *     record 20000 >cases && calls <cases
+ *     record 40000 >cases && calls <cases
  *
- * It knows nothing of charts. A case is the function's number, the allowance, the two costs and the number to be returned, and then each
- * buffer in the order of the parameters: whether it is read, written or not even looked at, its element's size, the byte that its filling
- * begins with, its length, how much of it is used, and the used part (after the call where it is written, else before it). Each buffer is
- * lent in memory of just its size, and one of no size as NULL. */
+ * It knows nothing of charts. A case is the function's number, the numbers that it takes, the one to be returned, and then each buffer, in
+ * the order of the parameters: whether it is read, written or not even looked at, its element's size, the byte that its filling begins with,
+ * its length, how much of it is used, and the used part (after the call where it is written, else before it). Each buffer is lent in memory
+ * of just its size, and one of no size as NULL. */
 #include <stdio.h>
 #include <stdlib.h>
 
 #include "veilbuzz.h"
 #include "watched.h"
 
-enum function { READ = 1, ANALYSE, CHECK, TOTAL };
+enum function { READ = 1, ANALYSE, CHECK, TOTAL, NODE, BLOCKS, WRITE };
 enum access { READS, WRITES, IGNORES };
-enum { MOST_BUFFERS = 7, SHOWN = 10 };
+enum { MOST_NUMBERS = 6, MOST_BUFFERS = 8, SHOWN = 10 };
 
 struct buffer {
     int access;
@@ -25,7 +25,8 @@ struct buffer {
 };
 
 /* As many as a function's parameters have. */
-static const size_t buffer_counts[] = {0, 3, 7, 5, 7};
+static const size_t number_counts[] = {0, 0, 1, 0, 2, 1, 0, 6};
+static const size_t buffer_counts[] = {0, 3, 7, 5, 7, 3, 3, 8};
 
 static unsigned long cases, differences;
 
@@ -90,7 +91,7 @@ static void differs(const char *what, size_t place, unsigned long long got, unsi
 /* Compares a buffer with what it has to hold, byte by byte, and gives it back. */
 static void compare(const struct buffer *buffer, size_t number) {
     static const char *const names[] = {"byte of buffer 0,", "byte of buffer 1,", "byte of buffer 2,", "byte of buffer 3,",
-                                        "byte of buffer 4,", "byte of buffer 5,", "byte of buffer 6,"};
+                                        "byte of buffer 4,", "byte of buffer 5,", "byte of buffer 6,", "byte of buffer 7,"};
     const size_t whole = buffer->length * buffer->size, used = buffer->used * buffer->size;
     const uint8_t *left = buffer->lent;
     size_t place;
@@ -108,32 +109,41 @@ static void compare(const struct buffer *buffer, size_t number) {
     free(buffer->known);
 }
 
-static uint64_t call(int function, size_t allowance, uint16_t hit, uint16_t miss, const struct buffer *b) {
+static uint64_t call(int function, const uint64_t *n, const struct buffer *b) {
     switch (function) {
     case READ:
         return veilbuzz_read(b[0].lent, b[0].length, b[1].lent, b[1].length, b[2].lent, b[2].length);
     case ANALYSE:
-        return veilbuzz_analyse(b[0].lent, b[0].length, allowance, b[1].lent, b[1].length, b[2].lent, b[2].length, b[3].lent,
+        return veilbuzz_analyse(b[0].lent, b[0].length, (size_t)n[0], b[1].lent, b[1].length, b[2].lent, b[2].length, b[3].lent,
                                 b[3].length, b[4].lent, b[4].length, b[5].lent, b[5].length, b[6].lent, b[6].length);
     case CHECK:
         return veilbuzz_check(b[0].lent, b[0].length, b[1].lent, b[1].length, b[2].lent, b[2].length, b[3].lent, b[3].length,
                               b[4].lent, b[4].length);
+    case TOTAL:
+        return veilbuzz_total(b[0].lent, b[0].length, b[1].lent, b[1].length, b[2].lent, b[2].length, b[3].lent, b[3].length,
+                              (uint16_t)n[0], (uint16_t)n[1], b[4].lent, b[4].length, b[5].lent, b[5].length, b[6].lent, b[6].length);
+    case NODE:
+        return veilbuzz_node(b[0].lent, b[0].length, (size_t)n[0], b[1].lent, b[1].length, b[2].lent, b[2].length);
+    case BLOCKS:
+        return veilbuzz_blocks(b[0].lent, b[0].length, b[1].lent, b[1].length, b[2].lent, b[2].length);
     default:
-        return veilbuzz_total(b[0].lent, b[0].length, b[1].lent, b[1].length, b[2].lent, b[2].length, b[3].lent, b[3].length, hit,
-                              miss, b[4].lent, b[4].length, b[5].lent, b[5].length, b[6].lent, b[6].length);
+        return veilbuzz_write(n[0], n[1], n[2], n[3], n[4], n[5], b[0].lent, b[0].length, b[1].lent, b[1].length, b[2].lent, b[2].length,
+                              b[3].lent, b[3].length, b[4].lent, b[4].length, b[5].lent, b[5].length, b[6].lent, b[6].length, b[7].lent,
+                              b[7].length);
     }
 }
 
 static void make_call(int function) {
+    uint64_t numbers[MOST_NUMBERS] = {0};
     struct buffer buffers[MOST_BUFFERS];
-    const size_t allowance = (size_t)take_number();
-    const uint16_t hit = (uint16_t)take_number(), miss = (uint16_t)take_number();
-    const uint64_t expected = take_number();
-    uint64_t returned;
+    uint64_t expected, returned;
     size_t number;
+    for (number = 0; number < number_counts[function]; number++)
+        numbers[number] = take_number();
+    expected = take_number();
     for (number = 0; number < buffer_counts[function]; number++)
         prepare(&buffers[number]);
-    returned = call(function, allowance, hit, miss, buffers);
+    returned = call(function, numbers, buffers);
     if (returned != expected)
         differs("function", (size_t)function, returned, expected);
     for (number = 0; number < buffer_counts[function]; number++)
@@ -143,7 +153,7 @@ static void make_call(int function) {
 int main(void) {
     uint8_t function;
     while (fread(&function, 1, 1, stdin) == 1) {
-        if (function < READ || function > TOTAL)
+        if (function < READ || function > WRITE)
             stop("there is no such function");
         make_call(function);
         cases++;

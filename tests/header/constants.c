@@ -10,7 +10,9 @@ static uint8_t chart[VEILBUZZ_LONGEST_CHART + 8];
 static uint32_t blocks[VEILBUZZ_MOST_BLOCKS];
 static uint8_t must[VEILBUZZ_MOST_AGES], may[VEILBUZZ_MOST_AGES];
 static uint8_t marks[VEILBUZZ_MOST_NODES], classes[VEILBUZZ_MOST_CLASSES];
-static uint64_t header[VEILBUZZ_HEADER_LENGTH], answer[VEILBUZZ_LONGEST_ANSWER];
+static uint64_t header[VEILBUZZ_HEADER_LENGTH], fields[VEILBUZZ_FIELDS_LENGTH], answer[VEILBUZZ_LONGEST_ANSWER];
+static uint64_t lists[VEILBUZZ_FIELDS_LENGTH][VEILBUZZ_MOST_NODES]; /* of each field, as veilbuzz_write takes them */
+static uint8_t written[VEILBUZZ_LONGEST_CHART];
 static int wrong;
 
 static void is(const char *what, uint64_t told, uint64_t expected) {
@@ -40,6 +42,23 @@ static void node(size_t n, uint64_t kind, uint64_t address, uint64_t arrows, uin
 
 static uint64_t read_chart(size_t nodes) {
     return veilbuzz_read(chart, 8 + 8 * nodes, header, VEILBUZZ_HEADER_LENGTH, answer, VEILBUZZ_LONGEST_ANSWER);
+}
+
+static uint64_t read_node(size_t nodes, size_t n) {
+    return veilbuzz_node(chart, 8 + 8 * nodes, n, fields, VEILBUZZ_FIELDS_LENGTH, answer, VEILBUZZ_LONGEST_ANSWER);
+}
+
+static uint64_t list_blocks(size_t nodes, size_t length) {
+    return veilbuzz_blocks(chart, 8 + 8 * nodes, blocks, length, answer, VEILBUZZ_LONGEST_ANSWER);
+}
+
+/* Writes what `header` and `lists` have. */
+static uint64_t write_chart(size_t nodes, size_t length, size_t room) {
+    return veilbuzz_write(header[VEILBUZZ_HEADER_LINE_BITS], header[VEILBUZZ_HEADER_SET_BITS], header[VEILBUZZ_HEADER_WAYS],
+                          header[VEILBUZZ_HEADER_START], header[VEILBUZZ_HEADER_NODES], header[VEILBUZZ_HEADER_ENTRY],
+                          lists[VEILBUZZ_FIELDS_KIND], nodes, lists[VEILBUZZ_FIELDS_ADDRESS], nodes, lists[VEILBUZZ_FIELDS_SIZE], nodes,
+                          lists[VEILBUZZ_FIELDS_OUTS], nodes, lists[VEILBUZZ_FIELDS_FIRST], nodes, lists[VEILBUZZ_FIELDS_SECOND], nodes,
+                          written, length, answer, room);
 }
 
 static uint64_t analyse(size_t nodes, size_t allowance) {
@@ -104,6 +123,73 @@ static void headers(void) {
     IS(class_of(4, 0), VEILBUZZ_CLASS_UNSURE); /* from one that may have the block */
 }
 
+/* A node with six different fields, a write, a bare step, and one that there is not. */
+static void nodes(void) {
+    head(VEILBUZZ_START_EMPTY, 7, 4);
+    node(2, 1, 0x40, 2, 5);
+    chart[8 * (2 + 1) + 7] = 3 << 4; /* the second arrow leads to 3 */
+    IS(read_node(7, 2), 0);
+    IS(answer[VEILBUZZ_NODE_THERE], 1);
+    IS(fields[VEILBUZZ_FIELDS_KIND], VEILBUZZ_KIND_READ);
+    IS(fields[VEILBUZZ_FIELDS_ADDRESS], 0x40);
+    IS(fields[VEILBUZZ_FIELDS_SIZE], VEILBUZZ_SIZE_ONE);
+    IS(fields[VEILBUZZ_FIELDS_OUTS], 2);
+    IS(fields[VEILBUZZ_FIELDS_FIRST], 5);
+    IS(fields[VEILBUZZ_FIELDS_SECOND], 3);
+    node(6, 2, 0x40, 0, 0);
+    IS(read_node(7, 6), 0);
+    IS(fields[VEILBUZZ_FIELDS_KIND], VEILBUZZ_KIND_WRITE);
+    IS(read_node(7, 5), 0);
+    IS(answer[VEILBUZZ_NODE_THERE], 1);
+    IS(fields[VEILBUZZ_FIELDS_KIND], VEILBUZZ_KIND_STEP);
+    IS(read_node(7, 7), 0);
+    IS(answer[VEILBUZZ_NODE_THERE], 0);
+}
+
+/* How many blocks a reference of such a size touches. */
+static uint64_t touched(uint64_t address, uint8_t size) {
+    head(VEILBUZZ_START_EMPTY, 1, 0);
+    node(0, 1, address, 0, 0);
+    chart[8 * (0 + 1) + 7] = size;
+    IS(list_blocks(1, VEILBUZZ_MOST_BLOCKS), 0);
+    return answer[VEILBUZZ_BLOCKS_COUNT];
+}
+
+/* The last byte of a line is its byte 0x1F. */
+static void sizes(void) {
+    IS(touched(0x1F, VEILBUZZ_SIZE_ONE), 1);
+    IS(touched(0x1F, VEILBUZZ_SIZE_TWO), 2);
+    IS(touched(0x1E, VEILBUZZ_SIZE_TWO), 1);
+    IS(touched(0x1D, VEILBUZZ_SIZE_FOUR), 2);
+    IS(touched(0x1C, VEILBUZZ_SIZE_FOUR), 1);
+}
+
+/* Reads the seven nodes to `header` and `lists`. */
+static void take_apart(void) {
+    size_t n, k;
+    read_chart(7);
+    for (n = 0; n < 7; n++) {
+        read_node(7, n);
+        for (k = 0; k < VEILBUZZ_FIELDS_LENGTH; k++)
+            lists[k][n] = fields[k];
+    }
+}
+
+/* What is taken apart is written again as it was, and the numbers that veilbuzz_write begins with are those of `header`, in its order. */
+static void there_and_back(void) {
+    seven(VEILBUZZ_START_EMPTY);
+    node(3, 2, 0x7E, 2, 6);
+    chart[8 * (3 + 1) + 7] = 5 << 4 | VEILBUZZ_SIZE_TWO;
+    take_apart();
+    IS(write_chart(7, VEILBUZZ_LONGEST_CHART, VEILBUZZ_LONGEST_ANSWER), 0);
+    IS(answer[VEILBUZZ_WRITE_BYTES], 64);
+    IS(memcmp(written, chart, 64) == 0, 1);
+    lists[VEILBUZZ_FIELDS_ADDRESS][4] = (uint64_t)1 << 32;
+    IS(write_chart(7, VEILBUZZ_LONGEST_CHART, VEILBUZZ_LONGEST_ANSWER), 9);
+    IS(answer[VEILBUZZ_ANSWER_PLACE], 4);
+    IS(answer[VEILBUZZ_WRITE_BYTES], 0);
+}
+
 /* Four bytes over the end of a line, and once more: both touches miss, and then both hit. */
 static void touches(void) {
     static const uint16_t once[] = {1, 1};
@@ -125,11 +211,13 @@ static void touches(void) {
 /* With one place fewer than its length 11 is returned, and no list has changed; with just so many a list has the number that is told last. */
 static void lengths(void) {
     static const uint16_t times[] = {1, 0, 0, 0, 1, 1, 1};
-    static const uint64_t each[] = {VEILBUZZ_READ_LENGTH, VEILBUZZ_ANALYSE_LENGTH, VEILBUZZ_CHECK_LENGTH, VEILBUZZ_TOTAL_LENGTH};
+    static const uint64_t each[] = {VEILBUZZ_READ_LENGTH,    VEILBUZZ_NODE_LENGTH,  VEILBUZZ_BLOCKS_LENGTH, VEILBUZZ_WRITE_LENGTH,
+                                    VEILBUZZ_ANALYSE_LENGTH, VEILBUZZ_CHECK_LENGTH, VEILBUZZ_TOTAL_LENGTH};
     uint64_t longest = 0;
     size_t less, fewer, k;
     seven(VEILBUZZ_START_EMPTY);
     analyse(7, VEILBUZZ_ENOUGH_PASSES);
+    take_apart();
     for (less = 2; less-- > 0;) {
         const uint64_t number = less ? 11 : 0;
         for (fewer = 2; fewer-- > 0;) {
@@ -141,7 +229,27 @@ static void lengths(void) {
             IS(header[VEILBUZZ_HEADER_LENGTH - 1], short_of ? UINT64_MAX : 4);
             IS(answer[0], short_of ? UINT64_MAX : 0);
             IS(answer[VEILBUZZ_READ_LENGTH - 1], short_of ? UINT64_MAX : 2);
+            memset(fields, 0xFF, sizeof fields);
+            memset(answer, 0xFF, sizeof answer);
+            IS(veilbuzz_node(chart, 64, 4, fields, VEILBUZZ_FIELDS_LENGTH - less, answer, VEILBUZZ_NODE_LENGTH - fewer),
+               short_of ? 11 : 0);
+            IS(fields[0], short_of ? UINT64_MAX : VEILBUZZ_KIND_READ);
+            IS(fields[VEILBUZZ_FIELDS_LENGTH - 1], short_of ? UINT64_MAX : 0);
+            IS(answer[0], short_of ? UINT64_MAX : 0);
+            IS(answer[VEILBUZZ_NODE_LENGTH - 1], short_of ? UINT64_MAX : 1);
         }
+        memset(answer, 0xFF, sizeof answer);
+        memset(blocks, 0xFF, sizeof blocks);
+        IS(veilbuzz_blocks(chart, 64, blocks, 2, answer, VEILBUZZ_BLOCKS_LENGTH - less), number);
+        IS(answer[0], less ? UINT64_MAX : 0);
+        IS(answer[VEILBUZZ_BLOCKS_LENGTH - 1], less ? UINT64_MAX : 2);
+        IS(blocks[1], less ? UINT32_MAX : 1);
+        memset(answer, 0xFF, sizeof answer);
+        memset(written, 0xFF, sizeof written);
+        IS(write_chart(7, 64, VEILBUZZ_WRITE_LENGTH - less), number);
+        IS(answer[0], less ? UINT64_MAX : 0);
+        IS(answer[VEILBUZZ_WRITE_LENGTH - 1], less ? UINT64_MAX : 64);
+        IS(written[0], less ? 0xFF : 1);
         memset(answer, 0xFF, sizeof answer);
         memset(classes, 0xFF, sizeof classes);
         IS(veilbuzz_analyse(chart, 64, VEILBUZZ_ENOUGH_PASSES, blocks, 2, must, 14, may, 14, marks, 7, classes, 14, answer,
@@ -173,8 +281,14 @@ static void limits(void) {
         node(n, 1, 32 * n, 0, 0);
     IS(read_chart(VEILBUZZ_MOST_NODES), 0);
     IS(answer[VEILBUZZ_READ_BLOCKS], VEILBUZZ_MOST_BLOCKS);
+    IS(list_blocks(VEILBUZZ_MOST_NODES, VEILBUZZ_MOST_BLOCKS), 0);
+    IS(list_blocks(VEILBUZZ_MOST_NODES, VEILBUZZ_MOST_BLOCKS - 1), 11);
     node(n, 1, 32 * n, 0, 0);
     IS(read_chart(VEILBUZZ_MOST_NODES), 10);
+    memset(lists, 0, sizeof lists);
+    IS(write_chart(VEILBUZZ_MOST_NODES, VEILBUZZ_LONGEST_CHART, VEILBUZZ_LONGEST_ANSWER), 0);
+    IS(answer[VEILBUZZ_WRITE_BYTES], VEILBUZZ_LONGEST_CHART);
+    IS(write_chart(VEILBUZZ_MOST_NODES, VEILBUZZ_LONGEST_CHART - 1, VEILBUZZ_LONGEST_ANSWER), 11);
     head(VEILBUZZ_START_EMPTY, VEILBUZZ_MOST_NODES + 1, 0);
     IS(read_chart(VEILBUZZ_MOST_NODES + 1), 5);
 }
@@ -191,6 +305,9 @@ static void same(char **numbers) {
 int main(int count, char **numbers) {
     answers();
     headers();
+    nodes();
+    sizes();
+    there_and_back();
     touches();
     lengths();
     limits();

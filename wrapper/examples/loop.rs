@@ -1,5 +1,5 @@
-//! The loop of docs/RULES.md through the four functions: a step, a read that loops on itself, a read of the same line, from an empty
-//! cache.
+//! The loop of docs/RULES.md, read, analysed, checked and totalled: a step, a read that loops on itself, a read of the same line, from an
+//! empty cache.
 //!
 //!     VEILBUZZ_ARCHIVE=$(tests/archive) cargo run --manifest-path tests/Cargo.toml -p veilbuzz --example loop
 

@@ -3,8 +3,9 @@
 //! This is a thin and safe cover over the C functions of `include/veilbuzz.h`. The source of those is proved: for any bytes and any lengths
 //! each gives the answer that the rules (docs/RULES.md) define, writes only what is said here, and ends. The cover itself is ordinary Rust.
 //!
-//! [`Analysis::of`] is the short way, with buffers of its own. [`read`], [`analyse`], [`check`] and [`total`] are the four functions with
-//! buffers that the caller lends. `examples/loop.rs` is a whole program.
+//! [`Analysis::of`] is the short way to a chart's classes, [`chart_of`] to a chart and [`fields_of`] back from it, with buffers of their
+//! own. [`read`], [`node`], [`blocks`], [`write`], [`analyse`], [`check`] and [`total`] are the seven functions with buffers that the caller
+//! lends. `examples/loop.rs` and `examples/make.rs` are whole programs.
 //!
 //! The archive that is linked, libboundary.a, is looked for in the folder that VEILBUZZ_ARCHIVE names, or else in target/archive;
 //! `tests/archive` makes it and prints its folder.
@@ -15,19 +16,27 @@
 mod analyse;
 mod analysis;
 mod answer;
+mod blocks;
 mod check;
 mod class;
 mod limits;
+mod node;
+mod parts;
 pub mod raw;
 mod read;
 mod refusal;
 mod total;
+mod write;
 
 pub use analyse::{analyse, Buffers, Settled, Unsettled};
 pub use analysis::Analysis;
+pub use blocks::blocks;
 pub use check::{check, Table};
 pub use class::Class;
 pub use limits::{AGES, BLOCKS, CLASSES, LONGEST, NODES, PASSES, TOUCHES, WAYS};
+pub use node::{node, Fields};
+pub use parts::{chart_of, fields_of};
 pub use read::{read, Header, Start};
 pub use refusal::Refusal;
 pub use total::{total, Bounds, Costs, Totals};
+pub use write::{write, Heading, NodeLists};

@@ -5,7 +5,8 @@
 //! to something, and where the length is 0 the pointer may be null; a buffer that is written overlaps no other of the same call; while a
 //! call runs, nobody else writes to what it was lent, and nobody else reads what it writes.
 //!
-//! A function that is lent fewer places for its answer than it has numbers, or for a header, returns 11 and does nothing else.
+//! A function that is lent fewer places for its answer than it has numbers, or for a header or a node's fields, returns 11 and does nothing
+//! else.
 
 /// In every answer: the refusal's number, 0 for none; also what the function returns.
 pub const NUMBER: usize = 0;
@@ -16,6 +17,21 @@ pub const PLACE: usize = 1;
 pub const READ_BLOCKS: usize = 2;
 /// How many numbers its answer has.
 pub const READ_LENGTH: usize = 3;
+
+/// `veilbuzz_node`: 1 if there is such a node, 0 if not.
+pub const NODE_THERE: usize = 2;
+/// How many numbers its answer has.
+pub const NODE_LENGTH: usize = 3;
+
+/// `veilbuzz_blocks`: B.
+pub const BLOCKS_COUNT: usize = 2;
+/// How many numbers its answer has.
+pub const BLOCKS_LENGTH: usize = 3;
+
+/// `veilbuzz_write`: the bytes written, 8 + 8 N.
+pub const WRITE_BYTES: usize = 2;
+/// How many numbers its answer has.
+pub const WRITE_LENGTH: usize = 3;
 
 /// `veilbuzz_analyse`: the passes made; after 12 the allowance.
 pub const ANALYSE_PASSES: usize = 2;
@@ -39,12 +55,59 @@ pub const TOTAL_LENGTH: usize = 4;
 /// How many numbers a header has: L, S, A, the start code, N and the entry, in this order.
 pub const HEADER_LENGTH: usize = 6;
 
+/// How many fields a node has: kind, address, size code, number of arrows, first and second arrow, in this order.
+pub const FIELDS_LENGTH: usize = 6;
+
 extern "C" {
     pub fn veilbuzz_read(
         chart: *const u8,
         chart_length: usize,
         header: *mut u64,
         header_length: usize,
+        answer: *mut u64,
+        answer_length: usize,
+    ) -> u64;
+
+    pub fn veilbuzz_node(
+        chart: *const u8,
+        chart_length: usize,
+        node: usize,
+        fields: *mut u64,
+        fields_length: usize,
+        answer: *mut u64,
+        answer_length: usize,
+    ) -> u64;
+
+    pub fn veilbuzz_blocks(
+        chart: *const u8,
+        chart_length: usize,
+        blocks: *mut u32,
+        blocks_length: usize,
+        answer: *mut u64,
+        answer_length: usize,
+    ) -> u64;
+
+    pub fn veilbuzz_write(
+        line: u64,
+        sets: u64,
+        ways: u64,
+        start: u64,
+        nodes: u64,
+        entry: u64,
+        kinds: *const u64,
+        kinds_length: usize,
+        addresses: *const u64,
+        addresses_length: usize,
+        sizes: *const u64,
+        sizes_length: usize,
+        outs: *const u64,
+        outs_length: usize,
+        firsts: *const u64,
+        firsts_length: usize,
+        seconds: *const u64,
+        seconds_length: usize,
+        chart: *mut u8,
+        chart_length: usize,
         answer: *mut u64,
         answer_length: usize,
     ) -> u64;

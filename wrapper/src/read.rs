@@ -2,13 +2,13 @@ use crate::answer::Answer;
 use crate::raw;
 use crate::Refusal;
 
-/// What the cache holds before a walk.
+/// What the cache holds before a walk. The numbers are the start codes of rule 1.2.
 #[derive(Clone, Copy, Debug, PartialEq, Eq)]
 pub enum Start {
     /// Anything.
-    Unknown,
+    Unknown = 0,
     /// Nothing.
-    Empty,
+    Empty = 1,
 }
 
 /// What a chart's header says, and the number of blocks that its records have.

@@ -29,8 +29,8 @@ const WORDS: [[&str; 2]; 17] = [
     ["the entry is not below N", "name a node that there is"],
     ["a spare bit of the header is set", "clear it"],
     [
-        "the chart is not 8 + 8 N bytes long",
-        "cut it, or add the missing records",
+        "the chart is not 8 + 8 N bytes long, or a list of fields not N numbers",
+        "cut it, or add the missing records; one number for each node in each list",
     ],
     [
         "a record breaks its rules",
@@ -40,7 +40,7 @@ const WORDS: [[&str; 2]; 17] = [
     ["the chart has over BLOCKS blocks", "split the chart"],
     [
         "a lent buffer is shorter than used",
-        "lend N, 2 * N, B or N * B elements, as the function says",
+        "lend N, 2 * N, B, N * B or 8 + 8 * N elements, as the function says",
     ],
     ["the passes that were allowed are too few", "allow PASSES passes"],
     ["the table does not pass", "lend the one that the analysis wrote"],

@@ -1,9 +1,9 @@
-//! The example is built and run, and prints the loop's report and totals (sections 14 and 10 of the rules).
+//! The examples are built and run, and print what they should.
 
 use std::process::Command;
 
-#[test]
-fn the_loop_prints_its_classes_and_its_totals() {
+/// What an example prints.
+fn printed(example: &str) -> String {
     let mut cargo = Command::new(env!("CARGO"));
     cargo
         .args([
@@ -12,7 +12,7 @@ fn the_loop_prints_its_classes_and_its_totals() {
             "--offline",
             "--locked",
             "--example",
-            "loop",
+            example,
             "--manifest-path",
         ])
         .arg(concat!(env!("CARGO_MANIFEST_DIR"), "/Cargo.toml"));
@@ -26,8 +26,19 @@ fn the_loop_prints_its_classes_and_its_totals() {
         output.status,
         String::from_utf8_lossy(&output.stderr)
     );
+    String::from_utf8_lossy(&output.stdout).into()
+}
+
+#[test]
+fn the_loop_prints_its_classes_and_its_totals() {
+    // sections 14 and 10 of the rules
     assert_eq!(
-        String::from_utf8_lossy(&output.stdout),
+        printed("loop"),
         "nodes 3 blocks 1 passes 2\n0 none none\n1 unsure none\n2 hit none\nthe table passes: true\ntotals 2 and 101\n"
     );
+}
+
+#[test]
+fn a_chart_that_is_made_prints_what_the_c_example_prints() {
+    assert_eq!(printed("make"), include_str!("../../examples/make.stdout"));
 }

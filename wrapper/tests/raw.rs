@@ -1,8 +1,10 @@
 //! The C functions themselves: what each tells in all places of its answer, and lists of every length around the used one.
 
+mod given;
 mod lent;
 
-use lent::{chart, Lent};
+use given::Given;
+use lent::{chart, Lent, BLOCKS, NODES};
 use std::ops::Range;
 use veilbuzz::{raw, PASSES};
 
@@ -39,6 +41,21 @@ fn tells<const NUMBERS: usize>(numbers: [u64; NUMBERS], call: impl Fn(*mut u64, 
     }
 }
 
+/// Holds a function that answers in so many places to the six numbers of another list, or to none of them, for lists of every length:
+/// without room in both, to 11 and lists as they were.
+fn tells_six(needed: usize, number: u64, six: &[u64], call: impl Fn(&mut [u64], *mut u64, usize) -> u64) {
+    for (length, places) in LENGTHS.flat_map(|length| LENGTHS.map(move |places| (length, places))) {
+        let (mut other, mut answer) = (list(length), list(places));
+        let returned = call(&mut other, answer.as_mut_ptr(), places);
+        if length < 6 || places < needed {
+            assert_eq!((returned, other, answer), (NO_ROOM, list(length), list(places)));
+        } else {
+            assert_eq!((returned, other), (number, told(length, six)));
+            assert_eq!(answer[raw::NUMBER], number);
+        }
+    }
+}
+
 fn read(chart: &[u8], header: &mut [u64], answer: *mut u64, length: usize) -> u64 {
     unsafe {
         raw::veilbuzz_read(
@@ -65,17 +82,124 @@ fn read_tells_the_number_of_blocks() {
 fn read_tells_six_numbers_of_a_header_and_does_nothing_without_room_for_them() {
     let bytes = chart();
     for (chart, number, six) in [(&bytes[..], 0, &[4, 0, 2, 0, 4, 0][..]), (&bytes[..39], 8, &[])] {
-        for (length, places) in LENGTHS.flat_map(|length| LENGTHS.map(move |places| (length, places))) {
-            let (mut header, mut answer) = (list(length), list(places));
-            let returned = read(chart, &mut header, answer.as_mut_ptr(), places);
-            if length < raw::HEADER_LENGTH || places < raw::READ_LENGTH {
-                assert_eq!((returned, header, answer), (NO_ROOM, list(length), list(places)));
-            } else {
-                assert_eq!((returned, header), (number, told(length, six)));
-                assert_eq!(answer[raw::NUMBER], number);
-            }
-        }
+        tells_six(raw::READ_LENGTH, number, six, |header, answer, length| {
+            read(chart, header, answer, length)
+        });
     }
+}
+
+fn node(chart: &[u8], n: usize, fields: &mut [u64], answer: *mut u64, length: usize) -> u64 {
+    unsafe {
+        raw::veilbuzz_node(
+            chart.as_ptr(),
+            chart.len(),
+            n,
+            fields.as_mut_ptr(),
+            fields.len(),
+            answer,
+            length,
+        )
+    }
+}
+
+#[test]
+fn node_tells_whether_it_is_there() {
+    let bytes = chart();
+    for (chart, n, numbers) in [
+        (&bytes[..], NODES - 1, [0, 0, 1]),
+        (&bytes, NODES, [0, 0, 0]),
+        (&bytes[..39], 0, [8, 0, 0]),
+    ] {
+        tells(numbers, |answer, length| node(chart, n, &mut [0; 6], answer, length));
+    }
+}
+
+#[test]
+fn node_tells_six_fields_and_does_nothing_without_room_for_them() {
+    let bytes = chart();
+    // the second node reads 0x10 and leads to the third
+    for (chart, n, number, six) in [
+        (&bytes[..], 1, 0, &[1, 0x10, 0, 1, 2, 0][..]),
+        (&bytes, NODES, 0, &[]),
+        (&bytes[..39], 1, 8, &[]),
+    ] {
+        tells_six(raw::NODE_LENGTH, number, six, |fields, answer, length| {
+            node(chart, n, fields, answer, length)
+        });
+    }
+}
+
+/// The blocks in a buffer of so many places, which stays as it was after a refusal and without room for the answer.
+fn blocks(places: usize, answer: *mut u64, length: usize) -> u64 {
+    let (chart, mut blocks) = (chart(), vec![77; places]);
+    let returned = unsafe {
+        raw::veilbuzz_blocks(
+            chart.as_ptr(),
+            chart.len(),
+            blocks.as_mut_ptr(),
+            blocks.len(),
+            answer,
+            length,
+        )
+    };
+    assert_eq!(blocks == vec![77; places], returned != 0);
+    returned
+}
+
+#[test]
+fn blocks_tells_how_many_there_are() {
+    tells([0, 0, 3], |answer, length| blocks(BLOCKS, answer, length));
+    tells([0, 0, 3], |answer, length| blocks(BLOCKS + 1, answer, length));
+    tells([11, 0, 0], |answer, length| blocks(BLOCKS - 1, answer, length));
+}
+
+/// The chart of what is given after a change, in a buffer that stays as it was after a refusal and without room for the answer.
+fn write(change: fn(&mut Given), answer: *mut u64, length: usize) -> u64 {
+    let mut given = Given::of(&given::chart());
+    change(&mut given);
+    let before = given.lent.clone();
+    let returned = unsafe {
+        raw::veilbuzz_write(
+            given.heading.line,
+            given.heading.sets,
+            given.heading.ways,
+            given.heading.start,
+            given.heading.nodes,
+            given.heading.entry,
+            given.kinds.as_ptr(),
+            given.kinds.len(),
+            given.addresses.as_ptr(),
+            given.addresses.len(),
+            given.sizes.as_ptr(),
+            given.sizes.len(),
+            given.outs.as_ptr(),
+            given.outs.len(),
+            given.firsts.as_ptr(),
+            given.firsts.len(),
+            given.seconds.as_ptr(),
+            given.seconds.len(),
+            given.lent.as_mut_ptr(),
+            given.lent.len(),
+            answer,
+            length,
+        )
+    };
+    assert_eq!(given.lent == before, returned != 0);
+    returned
+}
+
+#[test]
+fn write_tells_how_long_the_chart_is() {
+    tells([0, 0, 48], |answer, length| write(|_| (), answer, length));
+    tells([6, 0, 0], |answer, length| {
+        write(|given| given.heading.entry = 5, answer, length)
+    });
+    tells([9, 3, 0], |answer, length| {
+        write(|given| given.addresses[3] += 1, answer, length)
+    });
+    tells([11, 0, 0], |answer, length| {
+        write(|given| given.lent.truncate(47), answer, length)
+    });
 }
 
 /// Without room for its answer the analysis leaves each buffer as it was.

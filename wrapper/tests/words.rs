@@ -19,6 +19,11 @@ fn a_refusal_says_its_number_its_place_what_was_found_and_what_to_do() {
         "refused 1 at 0: the chart has fewer than 8 bytes (give the whole file)"
     );
     assert_eq!(
+        refusal(8, 0),
+        "refused 8 at 0: the chart is not 8 + 8 N bytes long, or a list of fields not N numbers \
+         (cut it, or add the missing records; one number for each node in each list)"
+    );
+    assert_eq!(
         refusal(17, 5),
         "refused 17 at 5: a floor above 0 stands at a node without a mark (no walk comes there: make it 0)"
     );

@@ -1,9 +1,8 @@
-// Tells whether the lent buffers have room (rule 11.11), writes the block list, clears a table and begins it (rule 9.1). Callers keep that there
-// is room for what is written; nothing beyond the used parts changes. Nothing is refused here.
+// Tells whether the lent buffers have room (rule 11.11), clears a table and begins it (rule 9.1). Callers keep that there is room for what is
+// written; nothing beyond the used parts changes. Nothing is refused here.
 ghost use mathlib.Core.Path.{_≡_};
 ghost use Prim.Native.Nat.{_≤_, _<_};
-ghost use lib.ListN.{length, getD};
-ghost use Rattle.lists.specs.Loops.{patch};
+ghost use lib.ListN.{length};
 ghost use Rattle.chart.specs.Geometry.{mostNodes, mostBlocks};
 ghost use Rattle.flow.specs.Pass.{before};
 ghost use Rattle.ages.specs.Plan.{planFlow};
@@ -33,16 +32,6 @@ pub(crate) fn short_for(
     let used = nodes * count;
     let table = (must.len() < used) | ((may.len() < used) | (marks.len() < nodes));
     (blocks.len() < count) | (table | (classes.len() < Geometry::TOUCHES * nodes))
-}
-
-// Writes the first `count` blocks of the list into a lent buffer.
-pub(crate) fn write_blocks(list: &[u32], count: usize, blocks: &mut [u32])
-    requires { ⌜ (count ≤ length (now list)) × (count ≤ length (now blocks)) ⌝ }
-    ensures { λ r. ⌜ now (blocks .exit) ≡ patch (now (blocks .entry)) 0 count (λ k. getD (now (list .entry)) k 0) ⌝ }
-{
-    for k in 0..count {
-        blocks[k] = list[k];
-    }
 }
 
 // Writes zeros in every used place of a table.

@@ -12,7 +12,7 @@ use crate::Analysed;
 use crate::buffers::clear;
 use crate::buffers::short_for;
 use crate::buffers::start_table;
-use crate::buffers::write_blocks;
+use blocks::write_blocks;
 use chart::Geometry;
 use chart::Verdict;
 use refusals::Refusal;

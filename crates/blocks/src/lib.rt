@@ -1,12 +1,14 @@
-// Ascending lists of blocks, in arrays that the caller lends: the place of a block, and how many there are when one is put in (rule 3.4).
+// Ascending lists of blocks, in arrays that the caller lends: the place of a block, how many there are when one is put in (rule 3.4), and a list
+// written into a buffer that has room for it.
 // Nothing is refused here: callers keep lists that ascend, and look whether there are more blocks than they have places for.
 ghost use mathlib.Core.Bool.{cond};
 ghost use mathlib.Core.Path.{_≡_};
 ghost use mathlib.Core.List.{_∷_};
 ghost use Prim.Native.Nat.{_+_, _-_, _≤_, _<_};
-ghost use lib.ListN.{length, take, drop};
+ghost use lib.ListN.{length, take, drop, getD};
 ghost use lib.Seq.{paste};
 ghost use lib.Dec.{ltb};
+ghost use Rattle.lists.specs.Loops.{patch};
 ghost use Rattle.blocks.specs.Blocks.{placeIn, insert};
 ghost use Rattle.blocks.specs.Listing.{Ascending, Listing, Laid};
 
@@ -113,4 +115,14 @@ pub fn put_block(blocks: &mut [u32], most: usize, count: usize, block: u32) -> u
     }
     shift_in(blocks, place, count, block);
     count + 1
+}
+
+// Writes the first `count` blocks of the list over the start of a lent buffer, which keeps the rest (rules 12.2 and 15.2).
+pub fn write_blocks(list: &[u32], count: usize, blocks: &mut [u32])
+    requires { ⌜ (count ≤ length (now list)) × (count ≤ length (now blocks)) ⌝ }
+    ensures { λ r. ⌜ now (blocks .exit) ≡ patch (now (blocks .entry)) 0 count (λ k. getD (now (list .entry)) k 0) ⌝ }
+{
+    for k in 0..count {
+        blocks[k] = list[k];
+    }
 }

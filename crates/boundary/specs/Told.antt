@@ -1,6 +1,6 @@
 -- What a caller in another language is told: numbers at the start of a lent list. Rule 12.9, and rule 11.11 of the lists for the answer, which
--- goes before all other refusals. The checker's yes is told and not returned, and the reader's blocks are not told. include/veilbuzz.h names the
--- places in C.
+-- goes before all other refusals; and rule 15.3, of the writer's six numbers. The checker's yes is told and not returned, and the reader's blocks are
+-- not told: listing them is a function of its own. include/veilbuzz.h names the places in C.
 use Prim.Native.Nat.{ℕ}
 use mathlib.Core.Bool.{Bool, cond, _||_}
 use mathlib.Core.List.{List, [], _∷_}
@@ -16,6 +16,12 @@ use Rattle.chart.specs.Reading.{ReadSaid}
 use Rattle.analysis.specs.Analysis.{AnalysedSaid}
 use Rattle.checker.specs.Checker.{CheckedSaid}
 use Rattle.totals.specs.Totals.{TotalsSaid}
+use Rattle.fields.specs.declared.NodeRead.{NodeRead}
+use Rattle.fields.specs.declared.NodeRead.the-variants.{Node, NoNode}
+use Rattle.fields.specs.declared.NodeRead.the-variants.{Refused as NodeRefused}
+use Rattle.fields.specs.Fields.{NodeSaid, BlocksSaid, fieldNumbers}
+use Rattle.writer.specs.declared.heading.Heading.{Heading}
+use Rattle.writer.specs.Writer.{WroteSaid}
 
 -- Rules 11.11 and 12.9: a lent list has fewer places than there are numbers to tell in it.
 abbrev pub short : List ℕ → ℕ → Bool
@@ -49,6 +55,34 @@ checkedNumbers said = said .number ∷ said .place ∷ said .yes ∷ []
 abbrev pub totalsNumbers : TotalsSaid → List ℕ
 totalsNumbers said = said .number ∷ said .place ∷ said .low ∷ said .high ∷ []
 
+-- Rule 12.9: the writer's, with how many bytes were written; that for a node, with 1 if there is one; and that for the blocks, with B.
+abbrev pub wroteNumbers : WroteSaid → List ℕ
+wroteNumbers said = said .number ∷ said .place ∷ said .length ∷ []
+
+abbrev pub nodeNumbers : NodeSaid → List ℕ
+nodeNumbers said = said .number ∷ said .place ∷ said .there ∷ []
+
+abbrev pub blocksNumbers : BlocksSaid → List ℕ
+blocksNumbers said = said .number ∷ said .place ∷ said .blocks ∷ []
+
+-- Rule 15.3: the writer's six numbers, in the order of a header that is told.
+abbrev pub headingGiven : ℕ → ℕ → ℕ → ℕ → ℕ → ℕ → Heading
+headingGiven line sets ways start nodes entry =
+    record {
+      line = line;
+      sets = sets;
+      ways = ways;
+      start = start;
+      nodes = nodes;
+      entry = entry;
+    }
+
+-- Rule 12.9: a lent list with the fields of a node that there is told in it, or as it was.
+abbrev pub fieldsTold : NodeRead → List ℕ → List ℕ
+fieldsTold (Node fields) lent = written (fieldNumbers fields) lent
+fieldsTold NoNode lent = lent
+fieldsTold (NodeRefused refusal) lent = lent
+
 -- Rule 12.9: a lent list with an accepted chart's header told in it, or as it was.
 abbrev pub headerTold : Verdict → List ℕ → List ℕ
 headerTold (Accepted header blocks) lent = written (headerNumbers header) lent
@@ -66,3 +100,13 @@ checkedShort answer = short answer 3
 
 abbrev pub totalsShort : List ℕ → Bool
 totalsShort answer = short answer 4
+
+abbrev pub wroteShort : List ℕ → Bool
+wroteShort answer = short answer 3
+
+abbrev pub blocksShort : List ℕ → Bool
+blocksShort answer = short answer 3
+
+-- The same of a node's fields and the answer for it.
+abbrev pub nodeShort : List ℕ → List ℕ → Bool
+nodeShort fields answer = short fields 6 || short answer 3

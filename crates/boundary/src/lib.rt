@@ -5,11 +5,16 @@
 // another, and that nobody else writes to one meanwhile, or reads what is written. A pointer whose length is 0 may be null.
 mod analysing;
 mod checking;
+mod picking;
 mod reading;
 mod telling;
 mod totalling;
+mod writing;
 
 pub use analysing::veilbuzz_analyse;
 pub use checking::veilbuzz_check;
+pub use picking::veilbuzz_blocks;
+pub use picking::veilbuzz_node;
 pub use reading::veilbuzz_read;
 pub use totalling::veilbuzz_total;
+pub use writing::veilbuzz_write;

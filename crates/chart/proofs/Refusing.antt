@@ -1,14 +1,14 @@
 -- The reader's tests tell when each of refusals 1 to 10 applies.
 use Prim.Native.Nat.{ℕ, zero, suc, _+_, _*_, _-_, _/_, _^_, _≤_, _<_}
 use mathlib.Core.Bool.{Bool, true, false, cond, not, _&&_}
-use mathlib.Core.List.{List, [], _∷_}
-use mathlib.Core.Logic.{inl, inr}
+use mathlib.Core.List.{List, [], _∷_, _++_}
+use mathlib.Core.Logic.{_⊎_, inl, inr, ⊎-elim}
 use mathlib.Core.Path.{_≡_, refl, sym, ap, subst, _∙_}
 use native.Mathlib.Omega.{arith}
 use borrow.Author.Tests.{ltb-true, ltb-false, not-true, not-false, lt-ltb, le-ltb}
 use lib.Dec.{ltb, leb, eqb}
 use lib.ListN.{length}
-use Rattle.lists.specs.Choice.{FirstApplies, first}
+use Rattle.lists.specs.Choice.{Case, _⇒_, FirstApplies, first}
 use Rattle.lists.specs.Telling.{Tells, AllTell, Numbered, Answered}
 use Rattle.lists.proofs.Choice.{first-applies, applies-first, none-applies, first-otherwise}
 use Rattle.lists.proofs.Firsts.{first-test, first-fails, first-is}
@@ -22,11 +22,11 @@ use Rattle.chart.specs.declared.headers.HeaderFields.{HeaderFields}
 use Rattle.chart.specs.declared.records.RecordFields.{RecordFields}
 use Rattle.chart.specs.Geometry.{mostNodes, mostBlocks, mostSetBits, mostWays, blockOf, between, shapeAllowed}
 use Rattle.chart.specs.Layout.{chartLength}
-use Rattle.chart.specs.Header.{geometryOf, fieldsIn, headerIn}
+use Rattle.chart.specs.Header.{geometryOf, fieldsIn}
 use Rattle.chart.specs.Record.{lastByte, recordKeeps, recordOf, touchesOf, blocksOf}
-use Rattle.chart.specs.Chart.{Chart, accepted, refused, recordsIn, brokenAt, firstBroken, overfullAt, firstOverfull, blocksAt, chartIn, chartCases, readChart}
+use Rattle.chart.specs.Chart.{Chart, accepted, refused, recordsIn, brokenAt, firstBroken, overfullAt, firstOverfull, fieldCases, chartIn, chartCases, readChart}
 use Rattle.chart.specs.Bytes.{AreBytes, headerBytes, recordBytes}
-use Rattle.chart.specs.Refusing.{ShapeKeeps, RecordKeeps, nodesSaid, FirstBroken, lastBlockSaid, recordBlocks, blocksSaid, blocksBefore, FirstOver, Applies}
+use Rattle.chart.specs.Refusing.{ShapeKeeps, RecordKeeps, FirstBroken, lastBlockSaid, recordBlocks, blocksBefore, FirstOver, Rows, Applies}
 use Rattle.lists.proofs.Telling.{tells-ltb, tells-leb, tells-eqb, tells-not, tells-and, tells-same, tells-if, holds-true, fails-false, first-only, first-given, none-given, none-only}
 use Rattle.blocks.proofs.Exact.{gathered-same, gathered-longer}
 use Rattle.chart.proofs.Allowed.{tells-record}
@@ -72,104 +72,100 @@ record-blocks geometry fields = go (eqb (fields .kind) 0)
         two (lastByte fields / 2 ^ geometry .line) (eqb lower (lastByte fields / 2 ^ geometry .line))
         ∙ ap (λ (upper : ℕ). lower ∷ cond (eqb lower upper) [] (upper ∷ [])) (last-block fields (geometry .line))
 
-module _ (bytes : List ℕ) (small : AreBytes bytes) where
-  nodes-said : fieldsIn bytes .nodes ≡ nodesSaid bytes
-  nodes-said = ap (λ (f : HeaderFields). f .nodes) (header-bytes bytes small)
+-- Rows 2 to 10 stand in the order of their numbers.
+pub fields-numbered : (fields : HeaderFields) (long : Bool) (records : ℕ → RecordFields) (more : List (Case Refusal)) → Numbered numberOf 10 more → Numbered numberOf 1 (fieldCases fields long records ++ more)
+fields-numbered fields long records more numbered =
+    (omega arith, (omega arith, (omega arith, (omega arith, (omega arith, (omega arith, (omega arith, (omega arith, (omega arith, numbered)))))))))
 
-  -- A test of the fields that words have, told by what bytes say.
-  of-fields : {S : Type 0} (test : HeaderFields → Bool) → Tells (test (headerBytes bytes)) S → Tells (test (fieldsIn bytes)) S
-  of-fields {S} test h = subst (λ (f : HeaderFields). Tells (test f) S) (sym (header-bytes bytes small)) h
+-- ---- any fields, and tests that tell what rows 1, 8 and 11 ask
 
+module _ (Few Long Short : Type 0) (fields : HeaderFields) (records : ℕ → RecordFields) (long : Bool) (tells-long : Tells long Long) where
   -- ---- the first node whose record breaks its rules
 
-  tells-keeps : (n : ℕ) → Tells (recordKeeps (fieldsIn bytes .nodes) (recordsIn bytes n)) (RecordKeeps (nodesSaid bytes) (recordBytes bytes n))
-  tells-keeps n =
-      subst (λ (f : RecordFields). Tells (recordKeeps (fieldsIn bytes .nodes) f) (RecordKeeps (nodesSaid bytes) (recordBytes bytes n))) (sym (record-bytes bytes small n))
-      (subst (λ (k : ℕ). Tells (recordKeeps k (recordBytes bytes n)) (RecordKeeps (nodesSaid bytes) (recordBytes bytes n))) (sym nodes-said)
-      (tells-record (nodesSaid bytes) (recordBytes bytes n)))
+  tells-keeps : (n : ℕ) → Tells (recordKeeps (fields .nodes) (records n)) (RecordKeeps (fields .nodes) (records n))
+  tells-keeps n = tells-record (fields .nodes) (records n)
 
   abbrev broken : ℕ → Bool
-  broken = brokenAt (recordsIn bytes) (fieldsIn bytes .nodes)
+  broken = brokenAt records (fields .nodes)
 
-  found-broken : (n : ℕ) → first (fieldsIn bytes .nodes) broken ≡ n → n < fieldsIn bytes .nodes → FirstBroken bytes n
+  found-broken : (n : ℕ) → first (fields .nodes) broken ≡ n → n < fields .nodes → FirstBroken (fields .nodes) records n
   found-broken n e h =
-      let tests : (i : ℕ) → i < n → broken i ≡ false = λ i k. first-fails (fieldsIn bytes .nodes) broken i (omega arith) in
-      let here : broken (first (fieldsIn bytes .nodes) broken) ≡ true = first-test (fieldsIn bytes .nodes) broken (omega arith) in
+      let tests : (i : ℕ) → i < n → broken i ≡ false = λ i k. first-fails (fields .nodes) broken i (omega arith) in
+      let here : broken (first (fields .nodes) broken) ≡ true = first-test (fields .nodes) broken (omega arith) in
       record {
-        inside = omega (arith, nodes-said);
+        inside = h;
         breaks = λ k. tells-keeps n .1 (not-true _ (rw e at here)) k;
         earlier = λ i k. tells-keeps i .0 (not-false _ (tests i k));
       }
 
-  broken-found : (n : ℕ) → FirstBroken bytes n → first (fieldsIn bytes .nodes) broken ≡ n
+  broken-found : (n : ℕ) → FirstBroken (fields .nodes) records n → first (fields .nodes) broken ≡ n
   broken-found n h =
-      first-is (fieldsIn bytes .nodes) broken n (omega (arith, h .inside, nodes-said))
+      first-is (fields .nodes) broken n (h .inside)
       (false-not _ (fails-false _ _ (tells-keeps n) (h .breaks)))
       (λ i k. true-not _ (holds-true _ _ (tells-keeps i) (h .earlier i k)))
 
   -- ---- the first node that brings a block too many
 
-  blocks-said : (n : ℕ) → blocksAt (headerIn bytes .geometry) (recordsIn bytes) n ≡ blocksSaid bytes n
-  blocks-said n =
-      subst (λ (f : RecordFields). blocksOf (touchesOf (headerIn bytes .geometry) (recordOf f)) ≡ blocksSaid bytes n) (sym (record-bytes bytes small n))
-      (record-blocks (headerIn bytes .geometry) (recordBytes bytes n)
-      ∙ ap (λ (f : HeaderFields). recordBlocks (f .line) (recordBytes bytes n)) (header-bytes bytes small))
-
   abbrev over : ℕ → Bool
-  over = overfullAt (headerIn bytes .geometry) (recordsIn bytes)
+  over = overfullAt (geometryOf fields) records
 
-  over-said : (n : ℕ) → over n ≡ ltb mostBlocks (length (blocksBefore bytes (suc n)))
+  abbrev before : ℕ → List ℕ
+  before n = blocksBefore (fields .line) records n
+
+  over-said : (n : ℕ) → over n ≡ ltb mostBlocks (length (before (suc n)))
   unfolding overfull
-  over-said n = ap (λ (l : List ℕ). ltb mostBlocks (length l)) (gathered-same _ (blocksSaid bytes) blocks-said (suc n))
+  over-said n =
+      ap (λ (l : List ℕ). ltb mostBlocks (length l))
+      (gathered-same _ (λ i. recordBlocks (fields .line) (records i)) (λ i. record-blocks (geometryOf fields) (records i)) (suc n))
 
-  found-over : (n : ℕ) → first (fieldsIn bytes .nodes) over ≡ n → n < fieldsIn bytes .nodes → FirstOver bytes n
+  found-over : (n : ℕ) → first (fields .nodes) over ≡ n → n < fields .nodes → FirstOver (fields .nodes) (fields .line) records n
   unfolding gathered
   found-over n e h =
-      let tests : (i : ℕ) → i < n → over i ≡ false = λ i k. first-fails (fieldsIn bytes .nodes) over i (omega arith) in
-      let here : over (first (fieldsIn bytes .nodes) over) ≡ true = first-test (fieldsIn bytes .nodes) over (omega arith) in
+      let tests : (i : ℕ) → i < n → over i ≡ false = λ i k. first-fails (fields .nodes) over i (omega arith) in
+      let here : over (first (fields .nodes) over) ≡ true = first-test (fields .nodes) over (omega arith) in
       record {
-        inside = omega (arith, nodes-said);
-        over = ltb-true mostBlocks (length (blocksBefore bytes (suc n))) (sym (over-said n) ∙ (rw e at here));
+        inside = h;
+        over = ltb-true mostBlocks (length (before (suc n))) (sym (over-said n) ∙ (rw e at here));
         earlier = few n tests;
       }
     where
-      few : (n : ℕ) → ((i : ℕ) → i < n → over i ≡ false) → length (blocksBefore bytes n) ≤ mostBlocks
+      few : (n : ℕ) → ((i : ℕ) → i < n → over i ≡ false) → length (before n) ≤ mostBlocks
       few zero tests = omega arith
-      few (suc n) tests = ltb-false mostBlocks (length (blocksBefore bytes (suc n))) (sym (over-said n) ∙ tests n (omega arith))
+      few (suc n) tests = ltb-false mostBlocks (length (before (suc n))) (sym (over-said n) ∙ tests n (omega arith))
 
-  over-found : (n : ℕ) → FirstOver bytes n → first (fieldsIn bytes .nodes) over ≡ n
+  over-found : (n : ℕ) → FirstOver (fields .nodes) (fields .line) records n → first (fields .nodes) over ≡ n
   over-found n h =
-      first-is (fieldsIn bytes .nodes) over n (omega (arith, h .inside, nodes-said))
-      (over-said n ∙ lt-ltb mostBlocks (length (blocksBefore bytes (suc n))) (h .over))
-      (λ i k. over-said i ∙ le-ltb mostBlocks (length (blocksBefore bytes (suc i))) (omega (arith, h .earlier, gathered-longer (blocksSaid bytes) (suc i) n (omega arith))))
+      first-is (fields .nodes) over n (h .inside)
+      (over-said n ∙ lt-ltb mostBlocks (length (before (suc n))) (h .over))
+      (λ i k. over-said i ∙ le-ltb mostBlocks (length (before (suc i)))
+      (omega (arith, h .earlier, gathered-longer (λ i. recordBlocks (fields .line) (records i)) (suc i) n (omega arith))))
 
-  -- ---- all ten
+  -- ---- rows 2 to 10, and more behind them
 
-  all-tell : AllTell (Applies bytes) (chartCases bytes)
+  abbrev rows : Refusal → Type 0
+  rows = Rows Few Long Short fields records
+
+  pub fields-tell : (more : List (Case Refusal)) → AllTell rows more → AllTell rows (fieldCases fields long records ++ more)
   unfolding firstBroken firstOverfull
-  all-tell = (
-    tells-ltb (length bytes) 8,
+  fields-tell more tell = (
+    tells-not _ _ (tells-eqb (fields .edition) 1),
     (
-      of-fields (λ f. not (eqb (f .edition) 1)) (tells-not _ _ (tells-eqb (headerBytes bytes .edition) 1)),
+      tells-not _ _ (tells-shape fields),
       (
-        of-fields (λ f. not (shapeAllowed (geometryOf f))) (tells-not _ _ (tells-shape (headerBytes bytes))),
+        tells-ltb 1 (fields .start),
         (
-          of-fields (λ f. ltb 1 (f .start)) (tells-ltb 1 (headerBytes bytes .start)),
+          tells-not _ _ (tells-between 1 mostNodes (fields .nodes)),
           (
-            of-fields (λ f. not (between 1 mostNodes (f .nodes))) (tells-not _ _ (tells-between 1 mostNodes (nodesSaid bytes))),
+            tells-leb (fields .nodes) (fields .entry),
             (
-              of-fields (λ f. leb (f .nodes) (f .entry)) (tells-leb (nodesSaid bytes) (headerBytes bytes .entry)),
+              tells-not _ _ (tells-and _ _ _ _ (tells-eqb (fields .«first_spare») 0) (tells-eqb (fields .«second_spare») 0)),
               (
-                of-fields (λ f. not (eqb (f .«first_spare») 0 && eqb (f .«second_spare») 0))
-                    (tells-not _ _ (tells-and _ _ _ _ (tells-eqb (headerBytes bytes .«first_spare») 0) (tells-eqb (headerBytes bytes .«second_spare») 0))),
+                tells-not _ _ tells-long,
                 (
-                  of-fields (λ f. not (eqb (length bytes) (chartLength (f .nodes)))) (tells-not _ _ (tells-eqb (length bytes) (8 + 8 * nodesSaid bytes))),
+                  ((λ e. found-broken _ refl (ltb-true _ (fields .nodes) e)), λ e h. omega (arith, ltb-false _ (fields .nodes) e, h .inside)),
                   (
-                    ((λ e. found-broken _ refl (ltb-true _ (fieldsIn bytes .nodes) e)), λ e h. omega (arith, ltb-false _ (fieldsIn bytes .nodes) e, h .inside, nodes-said)),
-                    (
-                      ((λ e. found-over _ refl (ltb-true _ (fieldsIn bytes .nodes) e)), λ e h. omega (arith, ltb-false _ (fieldsIn bytes .nodes) e, h .inside, nodes-said)),
-                      tt,
-                    ),
+                    ((λ e. found-over _ refl (ltb-true _ (fields .nodes) e)), λ e h. omega (arith, ltb-false _ (fields .nodes) e, h .inside)),
+                    tell,
                   ),
                 ),
               ),
@@ -180,29 +176,60 @@ module _ (bytes : List ℕ) (small : AreBytes bytes) where
     ),
   )
 
+  -- A row that applies is among those, or it is row 1 or row 11.
+  pub fields-answered : (more : List (Case Refusal)) → (Short → Answered ShortBuffer more) → (refusal : Refusal) → rows refusal
+      → (refusal ≡ TooShort) ⊎ Answered refusal (fieldCases fields long records ++ more)
+  unfolding firstBroken firstOverfull
+  fields-answered more s TooShort h = inl refl
+  fields-answered more s Edition h = inr (inl refl)
+  fields-answered more s CacheShape h = inr (inr (inl refl))
+  fields-answered more s StartCode h = inr (inr (inr (inl refl)))
+  fields-answered more s NodeCount h = inr (inr (inr (inr (inl refl))))
+  fields-answered more s EntryNode h = inr (inr (inr (inr (inr (inl refl)))))
+  fields-answered more s SpareBits h = inr (inr (inr (inr (inr (inr (inl refl))))))
+  fields-answered more s Length h = inr (inr (inr (inr (inr (inr (inr (inl refl)))))))
+  fields-answered more s (BrokenRecord n) h = inr (inr (inr (inr (inr (inr (inr (inr (inl (ap BrokenRecord (broken-found n h))))))))))
+  fields-answered more s (TooManyBlocks n) h = inr (inr (inr (inr (inr (inr (inr (inr (inr (inl (ap TooManyBlocks (over-found n h)))))))))))
+  fields-answered more s ShortBuffer h = inr (inr (inr (inr (inr (inr (inr (inr (inr (inr (s h))))))))))
+  fields-answered more s Unsettled h = absurd h
+  fields-answered more s NotPassing h = absurd h
+  fields-answered more s BoundsLength h = absurd h
+  fields-answered more s MissBelowHit h = absurd h
+  fields-answered more s (FloorAboveCeiling n) h = absurd h
+  fields-answered more s (FloorAtUnmarked n) h = absurd h
+
+-- ---- any bytes
+
+module _ (bytes : List ℕ) (small : AreBytes bytes) where
+  abbrev long : HeaderFields → Bool
+  long fields = eqb (length bytes) (chartLength (fields .nodes))
+
+  -- The reader's tests are those of the fields that bytes have.
+  by-bytes : chartCases bytes ≡ (ltb (length bytes) 8 ⇒ TooShort) ∷ fieldCases (headerBytes bytes) (long (headerBytes bytes)) (recordBytes bytes)
+  by-bytes =
+      λ i. (ltb (length bytes) 8 ⇒ TooShort)
+      ∷ fieldCases (header-bytes bytes small i) (long (header-bytes bytes small i)) (λ n. record-bytes bytes small n i)
+
+  abbrev Long : Type 0
+  Long = length bytes ≡ 8 + 8 * headerBytes bytes .nodes
+
+  tells-long : Tells (long (headerBytes bytes)) Long
+  tells-long = tells-eqb (length bytes) (8 + 8 * headerBytes bytes .nodes)
+
+  all-tell : AllTell (Applies bytes) (chartCases bytes)
+  all-tell =
+      subst (AllTell (Applies bytes)) (sym by-bytes)
+      (tells-ltb (length bytes) 8, fields-tell (length bytes < 8) Long ⊥ (headerBytes bytes) (recordBytes bytes) (long (headerBytes bytes)) tells-long [] tt)
+
   cases-numbered : Numbered numberOf 0 (chartCases bytes)
   cases-numbered =
-      (omega arith, (omega arith, (omega arith, (omega arith, (omega arith, (omega arith, (omega arith, (omega arith, (omega arith, (omega arith, tt))))))))))
+      (omega arith, fields-numbered (fieldsIn bytes) (long (fieldsIn bytes)) (recordsIn bytes) [] tt)
 
   applies-answered : (refusal : Refusal) → Applies bytes refusal → Answered refusal (chartCases bytes)
-  unfolding firstBroken firstOverfull
-  applies-answered TooShort h = inl refl
-  applies-answered Edition h = inr (inl refl)
-  applies-answered CacheShape h = inr (inr (inl refl))
-  applies-answered StartCode h = inr (inr (inr (inl refl)))
-  applies-answered NodeCount h = inr (inr (inr (inr (inl refl))))
-  applies-answered EntryNode h = inr (inr (inr (inr (inr (inl refl)))))
-  applies-answered SpareBits h = inr (inr (inr (inr (inr (inr (inl refl))))))
-  applies-answered Length h = inr (inr (inr (inr (inr (inr (inr (inl refl)))))))
-  applies-answered (BrokenRecord n) h = inr (inr (inr (inr (inr (inr (inr (inr (inl (ap BrokenRecord (broken-found n h))))))))))
-  applies-answered (TooManyBlocks n) h = inr (inr (inr (inr (inr (inr (inr (inr (inr (inl (ap TooManyBlocks (over-found n h)))))))))))
-  applies-answered ShortBuffer h = absurd h
-  applies-answered Unsettled h = absurd h
-  applies-answered NotPassing h = absurd h
-  applies-answered BoundsLength h = absurd h
-  applies-answered MissBelowHit h = absurd h
-  applies-answered (FloorAboveCeiling n) h = absurd h
-  applies-answered (FloorAtUnmarked n) h = absurd h
+  applies-answered refusal h =
+      subst (Answered refusal) (sym by-bytes)
+      (⊎-elim (λ (e : refusal ≡ TooShort). inl (sym e)) (λ (a : Answered refusal (fieldCases (headerBytes bytes) (long (headerBytes bytes)) (recordBytes bytes))). inr a)
+      (fields-answered (length bytes < 8) Long ⊥ (headerBytes bytes) (recordBytes bytes) (long (headerBytes bytes)) tells-long [] (λ no. no) refusal h))
 
   -- ---- the first that applies is given, and only that
 

@@ -10,6 +10,7 @@ use lib.Dec.{ltb}
 use Rattle.lists.specs.Choice.{Case, _⇒_, firstCase, first}
 use Rattle.blocks.specs.Blocks.{gathered, overfull}
 use Rattle.chart.specs.declared.shape.Geometry.{Geometry}
+use Rattle.chart.specs.declared.headers.HeaderFields.{HeaderFields}
 use Rattle.chart.specs.declared.headers.Header.{Header}
 use Rattle.chart.specs.declared.records.RecordFields.{RecordFields}
 use Rattle.chart.specs.declared.records.Node.{Node}
@@ -17,7 +18,7 @@ use Rattle.refusals.specs.declared.Refusal.{Refusal}
 use Rattle.refusals.specs.declared.Refusal.the-variants.{BrokenRecord, TooManyBlocks}
 use Rattle.chart.specs.Layout.{recordWord}
 use Rattle.chart.specs.Geometry.{mostBlocks}
-use Rattle.chart.specs.Header.{headerIn, bytesCases}
+use Rattle.chart.specs.Header.{headerOf, headerCases, headerIn, bytesCases}
 use Rattle.chart.specs.Record.{recordFields, recordKeeps, recordOf, nodeOf, arrowsOf, Touch, touchesOf, blocksOf}
 
 -- What an accepted chart says.
@@ -75,6 +76,11 @@ pub data Read : Type 0 where
 -- What a header and records under it are.
 abbrev pub recordsRead : (ℕ → RecordFields) → Header → Read
 recordsRead fieldsAt header = firstCase refused (recordCases fieldsAt header) (accepted (chartOf fieldsAt header))
+
+-- Rules 11.2 to 11.10, in the order of their numbers, of a header's fields and those of each record. `long` says whether the length is N's.
+-- Behind rule 11.1 these are the reader's (`chartCases`), and the writer asks them of what it is given.
+abbrev pub fieldCases : HeaderFields → Bool → (ℕ → RecordFields) → List (Case Refusal)
+fieldCases fields long fieldsAt = headerCases fields long ++ recordCases fieldsAt (headerOf fields)
 
 -- ---- of any bytes
 

@@ -1,7 +1,8 @@
--- When each of refusals 1 to 10 applies, as statements about the bytes. Rules 11.1 to 11.10 a second time, with rules 1.2, 1.3, 2.1 to 2.4,
--- 2.9 to 2.12, 3.1, 3.3 and 3.4: the tests of `Header.antt`, `Record.antt` and `Chart.antt` run; these are read. Demand 1 promises that the two agree.
--- The limits of N, S, A and the blocks are the geometry's on both sides: their numbers are sounded.
--- Choices: a byte past the end counts as 0; any kind but 0 touches; that the two agree is said of bytes (`AreBytes`).
+-- When each of refusals 1 to 11 applies, as statements about fields, and those of 1 to 10 about bytes. Rules 11.1 to 11.11 a second time, with
+-- rules 1.2, 1.3, 2.1 to 2.4, 2.9 to 2.12, 3.1, 3.3 and 3.4: the tests of `Header.antt`, `Record.antt` and `Chart.antt` run; these are read.
+-- Demand 1 promises that the two agree, of bytes for the reader and of anything that is given for the writer. The limits of N, S, A and the
+-- blocks are the geometry's on both sides: their numbers are sounded. Choices: a byte past the end counts as 0; any kind but 0 touches; of the
+-- reader the agreement is said where all are bytes (`AreBytes`).
 use Prim.Native.Nat.{ℕ, suc, _+_, _*_, _/_, _^_, _≤_, _<_}
 use mathlib.Core.Bool.{cond}
 use mathlib.Core.List.{List, [], _∷_}
@@ -46,15 +47,11 @@ pub record RecordKeeps (nodes : ℕ) (fields : RecordFields) : Type 0 where
   -- rule 2.1
   pub sizes : fields .size ≤ 2
 
--- N, as the bytes say it.
-abbrev pub nodesSaid : List ℕ → ℕ
-nodesSaid bytes = headerBytes bytes .nodes
-
 -- Rule 11.9: a node's record breaks a rule, and none before it does.
-pub record FirstBroken (bytes : List ℕ) (n : ℕ) : Type 0 where
-  pub inside : n < nodesSaid bytes
-  pub breaks : RecordKeeps (nodesSaid bytes) (recordBytes bytes n) → ⊥
-  pub earlier : (i : ℕ) → i < n → RecordKeeps (nodesSaid bytes) (recordBytes bytes i)
+pub record FirstBroken (nodes : ℕ) (records : ℕ → RecordFields) (n : ℕ) : Type 0 where
+  pub inside : n < nodes
+  pub breaks : RecordKeeps nodes (records n) → ⊥
+  pub earlier : (i : ℕ) → i < n → RecordKeeps nodes (records i)
 
 -- Rules 2.10 and 3.1: the block of a reference's last byte, which is the first one, the second or the fourth. A size code above 2 counts as 2.
 abbrev pub lastBlockSaid : ℕ → RecordFields → ℕ
@@ -70,37 +67,37 @@ recordBlocks line fields =
     ((fields .address / 2 ^ line)
     ∷ cond (eqb (fields .address / 2 ^ line) (lastBlockSaid line fields)) [] (lastBlockSaid line fields ∷ []))
 
--- The blocks that node n touches, as the bytes say it.
-abbrev pub blocksSaid : List ℕ → ℕ → List ℕ
-blocksSaid bytes n = recordBlocks (headerBytes bytes .line) (recordBytes bytes n)
-
 -- The blocks that nodes 0 to n - 1 touch; demand 1 promises that they are exactly these (`counted-blocks`).
-abbrev pub blocksBefore : List ℕ → ℕ → List ℕ
-blocksBefore bytes n = gathered (blocksSaid bytes) n
+abbrev pub blocksBefore : ℕ → (ℕ → RecordFields) → ℕ → List ℕ
+blocksBefore line records n = gathered (λ i. recordBlocks line (records i)) n
 
 -- Rule 11.10: with node n there is a block too many, and before it there was none too many.
-pub record FirstOver (bytes : List ℕ) (n : ℕ) : Type 0 where
-  pub inside : n < nodesSaid bytes
-  pub over : mostBlocks < length (blocksBefore bytes (suc n))
-  pub earlier : length (blocksBefore bytes n) ≤ mostBlocks
+pub record FirstOver (nodes line : ℕ) (records : ℕ → RecordFields) (n : ℕ) : Type 0 where
+  pub inside : n < nodes
+  pub over : mostBlocks < length (blocksBefore line records (suc n))
+  pub earlier : length (blocksBefore line records n) ≤ mostBlocks
 
--- Rules 11.1 to 11.10, with the length of rule 1.3: when each applies, whether or not another does too. The later ones are never of the bytes
--- alone.
+-- Rules 11.1 to 11.11 of fields, wherever they come from: when each applies, whether or not another does too. What rows 1, 8 and 11 ask is not of the
+-- fields, and is given: there are too few bytes, the length is the one for N, a buffer is short. The other rows are never of a chart alone.
+abbrev pub Rows : Type 0 → Type 0 → Type 0 → HeaderFields → (ℕ → RecordFields) → Refusal → Type 0
+Rows Few Long Short fields records TooShort = Few
+Rows Few Long Short fields records Edition = fields .edition ≡ 1 → ⊥
+Rows Few Long Short fields records CacheShape = ShapeKeeps fields → ⊥
+Rows Few Long Short fields records StartCode = 1 < fields .start
+Rows Few Long Short fields records NodeCount = (1 ≤ fields .nodes) × (fields .nodes ≤ mostNodes) → ⊥
+Rows Few Long Short fields records EntryNode = fields .nodes ≤ fields .entry
+Rows Few Long Short fields records SpareBits = (fields .«first_spare» ≡ 0) × (fields .«second_spare» ≡ 0) → ⊥
+Rows Few Long Short fields records Length = Long → ⊥
+Rows Few Long Short fields records (BrokenRecord n) = FirstBroken (fields .nodes) records n
+Rows Few Long Short fields records (TooManyBlocks n) = FirstOver (fields .nodes) (fields .line) records n
+Rows Few Long Short fields records ShortBuffer = Short
+Rows Few Long Short fields records Unsettled = ⊥
+Rows Few Long Short fields records NotPassing = ⊥
+Rows Few Long Short fields records BoundsLength = ⊥
+Rows Few Long Short fields records MissBelowHit = ⊥
+Rows Few Long Short fields records (FloorAboveCeiling n) = ⊥
+Rows Few Long Short fields records (FloorAtUnmarked n) = ⊥
+
+-- Rules 11.1 to 11.10 of bytes, with the length of rule 1.3. The reader has no buffer.
 abbrev pub Applies : List ℕ → Refusal → Type 0
-Applies bytes TooShort = length bytes < 8
-Applies bytes Edition = headerBytes bytes .edition ≡ 1 → ⊥
-Applies bytes CacheShape = ShapeKeeps (headerBytes bytes) → ⊥
-Applies bytes StartCode = 1 < headerBytes bytes .start
-Applies bytes NodeCount = (1 ≤ nodesSaid bytes) × (nodesSaid bytes ≤ mostNodes) → ⊥
-Applies bytes EntryNode = nodesSaid bytes ≤ headerBytes bytes .entry
-Applies bytes SpareBits = (headerBytes bytes .«first_spare» ≡ 0) × (headerBytes bytes .«second_spare» ≡ 0) → ⊥
-Applies bytes Length = length bytes ≡ 8 + 8 * nodesSaid bytes → ⊥
-Applies bytes (BrokenRecord n) = FirstBroken bytes n
-Applies bytes (TooManyBlocks n) = FirstOver bytes n
-Applies bytes ShortBuffer = ⊥
-Applies bytes Unsettled = ⊥
-Applies bytes NotPassing = ⊥
-Applies bytes BoundsLength = ⊥
-Applies bytes MissBelowHit = ⊥
-Applies bytes (FloorAboveCeiling n) = ⊥
-Applies bytes (FloorAtUnmarked n) = ⊥
+Applies bytes refusal = Rows (length bytes < 8) (length bytes ≡ 8 + 8 * headerBytes bytes .nodes) ⊥ (headerBytes bytes) (recordBytes bytes) refusal

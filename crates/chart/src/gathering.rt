@@ -46,7 +46,7 @@ fn put_record(blocks: &mut [u32], count: usize, geometry: Geometry, what: Record
 }
 
 // Gathers the blocks of all nodes into an array of zeros: what it holds after `TooMany` is not said.
-pub(crate) fn gather(chart: &[u8], geometry: Geometry, nodes: usize, blocks: &mut [u32]) -> Gathered
+pub fn gather(chart: &[u8], geometry: Geometry, nodes: usize, blocks: &mut [u32]) -> Gathered
     requires { ⌜ chartLength nodes ≤ length (now chart) ⌝ }
     requires { ⌜ now blocks ≡ padded mostBlocks [] ⌝ }
     requires { ⌜ AllEnd (recordsIn (now chart)) nodes ⌝ }

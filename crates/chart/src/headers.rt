@@ -1,5 +1,5 @@
 // The header of any bytes: the cache's shape, the start, the number of nodes and the entry, or the first of refusals 1 to 8 that applies.
-// Inner functions take any fields, and ask in the order of rule 11.0.
+// `header_of` and the functions below it take any fields, and ask in the order of rule 11.0.
 ghost use mathlib.Core.Path.{_≡_};
 ghost use mathlib.Core.Bool.{true};
 ghost use Rattle.lists.specs.Choice.{firstCase};
@@ -104,7 +104,7 @@ fn start_of(code: u64) -> Start
 }
 
 // The header of these fields, or the first of refusals 2 to 8 that applies; `long` says whether the length is the one for them.
-fn header_of(fields: HeaderFields, long: bool) -> HeaderRead
+pub fn header_of(fields: HeaderFields, long: bool) -> HeaderRead
     ensures { λ r. ⌜ r ≡ firstCase HeaderRead.Refused (headerCases fields long) (HeaderRead.Accepted (headerOf fields)) ⌝ }
 {
     let edition = fields.edition;

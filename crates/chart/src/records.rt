@@ -59,7 +59,7 @@ fn record_fields(word: u64) -> RecordFields
 }
 
 // The fields of record n of any bytes that hold it.
-fn fields_at(chart: &[u8], n: usize) -> RecordFields
+pub fn fields_at(chart: &[u8], n: usize) -> RecordFields
     requires { ⌜ chartLength (n + 1) ≤ length (now chart) ⌝ }
     ensures { λ r. ⌜ r ≡ recordsIn (now (chart .entry)) n ⌝ }
 {
@@ -140,7 +140,7 @@ fn twins(fields: RecordFields) -> bool
 }
 
 // Whether a record of these fields keeps its rules in a chart of so many nodes.
-fn record_keeps(nodes: usize, fields: RecordFields) -> bool
+pub fn record_keeps(nodes: usize, fields: RecordFields) -> bool
     ensures { λ r. ⌜ r ≡ recordKeeps nodes fields ⌝ }
 {
     let kind = fields.kind;

@@ -1,5 +1,10 @@
 -- What is so at every node and number: most of it by computing, for a node or a number that is not known.
-use mathlib.Core.Path.{refl}
+use Prim.Native.Nat.{ℕ, _+_, _-_, _≤_, _<_}
+use mathlib.Core.List.{List}
+use mathlib.Core.Path.{_≡_, refl, sym, ap, _∙_}
+use lib.ListN.{length, getD, drop, length-append, length-drop, List·getD-append}
+use lib.Seq.{getD-append-add, getD-drop}
+use Rattle.lists.specs.Lists.{written}
 use native.Mathlib.Omega.{arith}
 use borrow.Author.Tests.{lt-ltb, le-ltb}
 use Rattle.lists.proofs.Listed.{getD-listOf}
@@ -7,6 +12,20 @@ use Rattle.classes.proofs.Places.{classes-long, first-listed, second-listed}
 use Rattle.report.specs.Report.{report}
 use Rattle.report.specs.Ending.{refuses}
 use Rattle.demands.specs.Anywhere.{Anywhere}
+
+pub written-start : (new lent : List ℕ) (k : ℕ) → k < length new → getD (written new lent) k 0 ≡ getD new k 0
+written-start new lent k h = List·getD-append new (drop (length new) lent) 0 k h
+
+pub written-tail : (new lent : List ℕ) (k : ℕ) → length new ≤ k → getD (written new lent) k 0 ≡ getD lent k 0
+written-tail new lent k h =
+    let e : k ≡ length new + (k - length new) = omega arith in
+    ap (λ (p : ℕ). getD (written new lent) p 0) e
+    ∙ getD-append-add new (drop (length new) lent) (k - length new) 0
+    ∙ getD-drop (length new) lent (k - length new) 0
+    ∙ ap (λ (p : ℕ). getD lent p 0) (sym e)
+
+pub written-long : (new lent : List ℕ) → length new ≤ length lent → length (written new lent) ≡ length lent
+written-long new lent h = length-append new (drop (length new) lent) ∙ omega (arith, length-drop (length new) lent)
 
 pub anywhere : Anywhere
 unfolding report refuses
@@ -36,5 +55,8 @@ anywhere =
       bare-step = λ plan n a e. rw e;
       one-touch = λ plan n a touch e. rw e;
       two-touches = λ plan n a touch other e. rw e;
+      written-start = written-start;
+      written-tail = written-tail;
+      written-long = written-long;
       age-place = λ count n column buffer h. getD-listOf count _ 0 column h;
     }

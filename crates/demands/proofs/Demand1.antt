@@ -3,6 +3,7 @@ use Rattle.demands.specs.Demand1.{Demand1}
 use Rattle.demands.proofs.Refusals.{reading-refusals}
 use Rattle.demands.proofs.Analysing.{analysis-refusals, same-lengths}
 use Rattle.demands.proofs.Checking.{checker-refusals, checker-used}
+use Rattle.demands.proofs.Writing.{writer-refusals, fields-refusals}
 use Rattle.demands.proofs.Totalling.{totals-refusals, totals-numbers, totals-refusal, totals-used}
 use Rattle.demands.proofs.Numbers.{header-numbers, reading-numbers, analysis-numbers, checker-numbers, header-refusal, reading-refusal, analysis-refusal, analysis-refused, analysis-unsettled, checker-refusal}
 
@@ -13,6 +14,8 @@ demand1 =
       analysis = λ bytes chart allowance lent read. analysis-refusals bytes chart allowance lent read;
       checker = λ bytes chart table read. checker-refusals bytes chart table read;
       totalling = λ bytes chart table figures read. totals-refusals bytes chart table figures read;
+      fields = fields-refusals;
+      writing = writer-refusals;
       header-numbers = header-numbers;
       reading-numbers = reading-numbers;
       analysis-numbers = analysis-numbers;

@@ -5,6 +5,11 @@ pub mod Checking
 pub mod Analysing
 pub mod Totalling
 pub mod Truth
+pub mod Writing
+pub mod Back
+pub mod Again
+pub mod Alike
+pub mod RoundTrip
 pub mod Demand1
 pub mod Demand2
 pub mod Demand3

@@ -37,7 +37,7 @@ said-most : (most : ℕ) (cases : List (Case Refusal)) (refusal : Refusal) → e
 said-most most cases refusal e f =
     leb-true (numberOf refusal) most (answer-passes (λ r. leb (numberOf r) most) cases refusal e f)
 
-read-most : (bytes : List ℕ) (refusal : Refusal) → readChart bytes ≡ refused refusal → numberOf refusal ≤ 10
+pub read-most : (bytes : List ℕ) (refusal : Refusal) → readChart bytes ≡ refused refusal → numberOf refusal ≤ 10
 read-most bytes refusal e = said-most 10 (chartCases bytes) refusal refl (reading-refusals .only bytes refusal e)
 
 pub header-numbers : (bytes : List ℕ) → headerSays (headerRead bytes) .number ≤ 8

@@ -6,7 +6,7 @@ use Rattle.lists.proofs.Choice.{first-applies, applies-first}
 use Rattle.chart.specs.declared.headers.HeaderRead.the-variants.{Accepted as HeaderAccepted, Refused as HeaderRefused}
 use Rattle.chart.specs.Header.{headerIn, bytesCases, headerRead}
 use Rattle.chart.specs.Chart.{accepted, refused, chartIn, chartCases, readChart}
-use Rattle.chart.specs.Refusing.{blocksSaid}
+use Rattle.chart.specs.Refusing.{recordBlocks}
 use Rattle.chart.specs.Reading.{readingOf}
 use Rattle.blocks.proofs.Exact.{gathered-exactly}
 use Rattle.chart.proofs.Reader.{read-refuses}
@@ -39,6 +39,6 @@ reading-refusals =
       none-accepted = λ bytes small none. (chartIn bytes, none-accepts bytes small none);
       accepted-none = λ bytes chart refusal small e. accepts-none bytes small chart e refusal;
       accepted-says = λ bytes chart small e. accepted-says bytes small chart e;
-      counted-blocks = λ bytes n. gathered-exactly (blocksSaid bytes) n;
+      counted-blocks = λ line records n. gathered-exactly (λ i. recordBlocks line (records i)) n;
       few-blocks = accepted-few;
     }

@@ -15,6 +15,9 @@ use Rattle.chart.specs.Record.{recordKeeps, recordOf, arrowsOf, touchesOf}
 use Rattle.blocks.specs.Blocks.{gathered, overfull, placeIn}
 use Rattle.chart.specs.Reading.{readingOf}
 use Rattle.chart.proofs.Sounded.{chart-sounded}
+use Rattle.fields.specs.Fields.{nodeRead}
+use Rattle.fields.proofs.Sounded.{fields-sounded}
+use Rattle.writer.proofs.Sounded.{writer-sounded}
 use Rattle.chart.specs.Chart.{touches, firstBroken, firstOverfull, readChart}
 use Rattle.cache.specs.Plain.{has, without, touchSet, ageIn, hits, touch, Different, AllOf}
 use Rattle.cache.specs.Ages.{mustGrown, mayGrown, mustAfter, mayAfter, sameAges, touchAges, meetAges, startAges}
@@ -50,7 +53,7 @@ use Rattle.demands.specs.Sounded.{Sounded}
 
 -- All that has to be seen through for a definition to compute.
 all-unfolded : Unit {0}
-unfolding readingOf wordAt blockOf setOf shapeAllowed recordKeeps recordOf arrowsOf touchesOf gathered overfull placeIn firstBroken firstOverfull readChart has without touchSet ageIn hits touch mustGrown mayGrown mustAfter mayAfter sameAges touchAges meetAges startAges met changes metAt put putAll takeWith takeNode takeNodes pass before afterPasses settleFrom settle classBy finish analysed passing checkedBy checked totalBy totals report refuses
+unfolding readingOf wordAt blockOf setOf shapeAllowed recordKeeps recordOf arrowsOf touchesOf gathered overfull placeIn firstBroken firstOverfull readChart has without touchSet ageIn hits touch mustGrown mayGrown mustAfter mayAfter sameAges touchAges meetAges startAges met changes metAt put putAll takeWith takeNode takeNodes pass before afterPasses settleFrom settle classBy finish analysed passing checkedBy checked totalBy totals report refuses nodeRead
 all-unfolded = tt
 
 pub loop-nodes : headerIn loopChart .nodes ≡ 3
@@ -208,6 +211,8 @@ sounded =
       unsure-called = λ limit must may h e. rw (le-ltb must limit h, ne-eqb may limit e);
       cost-scales = λ chart k hitCost missCost ts contents. paid-scales (plainMachine chart) k hitCost missCost (touches chart) (chart .header .entry) ts contents;
       chart-sounded = chart-sounded;
+      fields-sounded = fields-sounded;
+      writer-sounded = writer-sounded;
       corners-hold = corners-hold;
       right-hold = right-hold;
       mistaken-hold = mistaken-hold;

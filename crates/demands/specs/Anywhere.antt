@@ -1,11 +1,11 @@
 -- What is so at every node, place, length and number, however large. Soundings are of small charts: a rule that changes from some number on, in
--- definition and code alike, would pass them all. The limits stand here as numbers, and not by name. Rules 1.4, 3.3, 6.3 to 6.5, 8.1, 8.2, 10.2, 10.3,
--- 11.0, 12.2, 13.1 to 13.3, 14.1, 14.2 and 14.4. `anywhere` in proofs/Anywhere.antt proves it.
+-- definition and code alike, would pass them all. The limits stand here as numbers, and not by name. Rules 1.4, 3.3, 6.3 to 6.5, 8.1, 8.2, 10.2,
+-- 10.3, 11.0, 12.2, 13.1 to 13.3, 14.1, 14.2, 14.4, 15.2 and 15.5. `anywhere` in proofs/Anywhere.antt proves it.
 use Prim.Native.Nat.{ℕ, suc, _+_, _*_, _/_, _%_, _≤_, _<_}
 use mathlib.Core.List.{List, [], _∷_, _++_}
 use mathlib.Core.Path.{_≡_}
 use lib.ListN.{length, getD, take}
-use Rattle.lists.specs.Lists.{listOf, joined}
+use Rattle.lists.specs.Lists.{listOf, joined, written}
 use Rattle.refusals.specs.declared.Refusal.the-variants.{BrokenRecord, TooManyBlocks, FloorAboveCeiling, FloorAtUnmarked}
 use Rattle.refusals.specs.Refusals.{placeOf}
 use Rattle.chart.specs.Geometry.{mostNodes}
@@ -76,5 +76,9 @@ pub record Anywhere : Type 0 where
   pub two-touches : (plan : Plan) (n : ℕ) (a : Ages) (touch other : ColumnTouch)
       → touchesIn plan n ≡ touch ∷ other ∷ []
       → planFlow plan .step n a ≡ touchAges (columnsOf plan) (other .column) (touchAges (columnsOf plan) (touch .column) a)
+  -- rules 12.2, 15.2 and 15.5: what is written over the start of a buffer, place by place, and what stays
+  pub written-start : (new lent : List ℕ) (k : ℕ) → k < length new → getD (written new lent) k 0 ≡ getD new k 0
+  pub written-tail : (new lent : List ℕ) (k : ℕ) → length new ≤ k → getD (written new lent) k 0 ≡ getD lent k 0
+  pub written-long : (new lent : List ℕ) → length new ≤ length lent → length (written new lent) ≡ length lent
   -- rule 12.2: where a node's ages stand
   pub age-place : (count n column : ℕ) (buffer : List ℕ) → column < count → getD (rowAt count buffer n) column 0 ≡ getD buffer (n * count + column) 0

@@ -1,7 +1,8 @@
 -- Demand 1, as those who ordered the tool put it: "Any bytes and any buffer lengths get an answer or a numbered refusal. What a refusal
 -- returns and leaves behind, and when each is given, is written down."
 -- The definitions answer for every input whatever; this is what they say of each refusal of the reader, of the header alone, of the analysis, of the
--- checker and of the totals: rules 3.4, 11.0 to 11.17, 12.1 to 12.3 and 12.5 to 12.8. Proved as `demand1` in proofs/Demand1.antt.
+-- checker, of the totals, of the writer, of a node read alone and of the blocks listed: rules 3.4, 11.0 to 11.17, 12.1 to 12.3, 12.5 to 12.8 and 15.1
+-- to 15.6. Proved as `demand1` in proofs/Demand1.antt.
 use Prim.Native.Nat.{ℕ, _*_, _≤_, _<_}
 use mathlib.Core.Path.{_≡_}
 use mathlib.Core.Bool.{true, false}
@@ -9,15 +10,16 @@ use mathlib.Core.List.{List, [], _∷_}
 use mathlib.Core.Logic.{_⊎_}
 use lib.ListN.{length, replicate, getD}
 use Rattle.lists.specs.Lists.{padded}
-use Rattle.lists.specs.Choice.{FirstApplies, Case, _⇒_}
+use Rattle.lists.specs.Choice.{FirstApplies}
 use Rattle.refusals.specs.declared.Refusal.{Refusal}
 use Rattle.refusals.specs.declared.Refusal.the-variants.{ShortBuffer, NotPassing}
 use Rattle.chart.specs.declared.headers.HeaderRead.the-variants.{Refused as HeaderRefused}
 use Rattle.chart.specs.declared.readings.Verdict.the-variants.{Accepted as ReaderAccepted, Refused as ReaderRefused}
 use Rattle.chart.specs.Geometry.{mostBlocks}
 use Rattle.blocks.specs.Exactly.{Exactly}
+use Rattle.chart.specs.declared.records.RecordFields.{RecordFields}
 use Rattle.chart.specs.Bytes.{AreBytes}
-use Rattle.chart.specs.Refusing.{Applies, blocksSaid, blocksBefore}
+use Rattle.chart.specs.Refusing.{Applies, recordBlocks, blocksBefore}
 use Rattle.chart.specs.Saying.{Says}
 use Rattle.chart.specs.Header.{bytesCases, headerRead, readHeaderSays}
 use Rattle.chart.specs.Reading.{reading, readSays}
@@ -36,6 +38,10 @@ use Rattle.checker.specs.Checker.{checked, checkSays}
 use Rattle.totals.specs.declared.Totals.the-variants.{Between}
 use Rattle.totals.specs.declared.Totals.the-variants.{Refused as TotalsRefused}
 use Rattle.totals.specs.Totals.{totalCases, totals, totalSays}
+use Rattle.writer.specs.declared.heading.Heading.{Heading}
+use Rattle.writer.specs.Given.{NodeLists}
+use Rattle.demands.specs.Ordered.{numbersOf}
+use Rattle.demands.specs.Writing.{WriterRefusals, FieldsRefusals}
 
 -- Rule 11.12: each of so many passes changes something.
 abbrev pub AllChange : Chart → ℕ → Type 0
@@ -49,17 +55,12 @@ pub record SameLengths (lent left : Buffers) : Type 0 where
   pub marks : length (left .marks) ≡ length (lent .marks)
   pub classes : length (left .classes) ≡ length (lent .classes)
 
--- Rule 11.0: the numbers of some refusals, in the order in which they are tried.
-abbrev pub numbersOf : List (Case Refusal) → List ℕ
-numbersOf [] = []
-numbersOf ((test ⇒ refusal) ∷ cases) = numberOf refusal ∷ numbersOf cases
-
 -- Rule 11.0: no refusal of a smaller number applies.
 abbrev pub NoneBefore : List ℕ → Refusal → Type 0
 NoneBefore bytes refusal = (other : Refusal) → numberOf other < numberOf refusal → Applies bytes other → ⊥
 
 -- Rules 11.0 to 11.10 and 12.1: when refusals 1 to 10 are given, that reader, analysis, checker and totals all give them and the header alone
--- gives 1 to 8, and what they leave behind.
+-- gives 1 to 8, and what they leave behind. That reading a node and listing the blocks give them too stands in `FieldsRefusals`.
 pub record ReadingRefusals : Type 0 where
   pub order : (bytes : List ℕ) → numbersOf (chartCases bytes) ≡ 1 ∷ 2 ∷ 3 ∷ 4 ∷ 5 ∷ 6 ∷ 7 ∷ 8 ∷ 9 ∷ 10 ∷ []
   pub given : (bytes : List ℕ) (refusal : Refusal) → FirstApplies (chartCases bytes) refusal → readChart bytes ≡ refused refusal
@@ -100,7 +101,7 @@ pub record ReadingRefusals : Type 0 where
   pub accepted-none : (bytes : List ℕ) (chart : Chart) (refusal : Refusal) → AreBytes bytes → readChart bytes ≡ accepted chart → Applies bytes refusal → ⊥
   pub accepted-says : (bytes : List ℕ) (chart : Chart) → AreBytes bytes → readChart bytes ≡ accepted chart → Says bytes chart
   -- the blocks that rule 11.10 counts are those that the nodes before touch
-  pub counted-blocks : (bytes : List ℕ) (n : ℕ) → Exactly (blocksSaid bytes) n (blocksBefore bytes n)
+  pub counted-blocks : (line : ℕ) (records : ℕ → RecordFields) (n : ℕ) → Exactly (λ i. recordBlocks line (records i)) n (blocksBefore line records n)
   -- rule 3.4: 64 blocks are the most
   pub few-blocks : (bytes : List ℕ) (chart : Chart) → readChart bytes ≡ accepted chart → blockCount chart ≤ mostBlocks
 
@@ -170,6 +171,9 @@ pub record Demand1 : Type 0 where
   pub totalling : (bytes : List ℕ) (chart : Chart) (table : Lent) (figures : Figures)
       → readChart bytes ≡ accepted chart
       → TotalsRefusals bytes chart table figures
+  -- rules 15.1 to 15.6
+  pub fields : FieldsRefusals
+  pub writing : (heading : Heading) (lists : NodeLists) (lent : List ℕ) → WriterRefusals heading lists lent
   -- rules 12.1, 12.3, 12.5 and 12.6: which numbers a function gives, and no others
   pub header-numbers : (bytes : List ℕ) → readHeaderSays bytes .number ≤ 8
   pub reading-numbers : (bytes : List ℕ) → readSays bytes .number ≤ 10

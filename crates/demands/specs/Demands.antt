@@ -16,9 +16,11 @@
 -- *totals*. A caller lends *buffers*, as long as it likes, for a function to read or to fill. Where a function cannot answer it gives a *refusal*,
 -- a number by rules 11.0 to 11.17, with the node at fault.
 --
--- 1. Ask it anything. Whatever bytes come, and however short a lent buffer is, the reader of charts, the analysis, the checker and the totals
---    give an answer or a refusal. It is written down when each refusal is given, what it returns and what it leaves in the buffers. A caller
---    checks nothing first.                                                               `demand1` in proofs/Demand1.antt
+-- 1. Ask it anything. Whatever bytes or numbers come, and however short a lent buffer is, the reader of charts, the analysis, the checker, the
+--    totals, the *writer*, which makes a chart's bytes from its fields, and the functions that tell a chart's fields and list its blocks give an
+--    answer or a refusal. It is written down when each refusal is given, what it returns and what it leaves in the buffers. A caller checks
+--    nothing first.
+--                                                                                        `demand1` in proofs/Demand1.antt
 --
 -- 2. It says as much as can be said. The checker passes a table exactly if it keeps rules 7.2 to 7.6, which are the equations of ages. Where the
 --    analysis is not refused (and 1 says where it is), its table passes, and no table that passes says more. A tool that called
@@ -30,9 +32,13 @@
 --    the plain machine pays on that walk is no less than the low one and no more than the high one.
 --                                                                                        `demand3` in proofs/Demand3.antt
 --
--- All three speak of the answers of functions, through what these promise: `chart::read` (`reading`), `chart::read_header`
--- (`headerRead`), `analysis::analyse` (`analysed`), `checker::check` (`checked`) and `totals::total` (`totals`). Each promise is an equation
--- with the definition of that name, so what is shown of the definition is shown of the function's answer.
+-- Beside the three stands what reader and writer are to each other: what was written reads back as what was given, and what was read is
+-- written again as the same bytes (`RoundTrip`).                                        `round-trip` in proofs/RoundTrip.antt
+--
+-- All of it speaks of the answers of functions, through what these promise: `chart::read` (`reading`), `chart::read_header` (`headerRead`),
+-- `analysis::analyse` (`analysed`), `checker::check` (`checked`), `totals::total` (`totals`), `writer::write` (`wrote`), `fields::read_node`
+-- (`nodeRead`) and `fields::read_blocks` (`blocksRead`). Each promise is an equation with the definition of that name, so what is shown of the
+-- definition is shown of the function's answer.
 use Rattle.demands.specs.Demand1.{Demand1}
 use Rattle.demands.specs.Demand2.{Demand2}
 use Rattle.demands.specs.Demand3.{Demand3}

@@ -1,7 +1,7 @@
 -- The examples of docs/RULES.md, section by section, as soundings, so that the page shows nothing that the definitions do not give. Those that
--- another list has too (sections 5, 6, 8 and 10 in `starred`, references of two and four bytes in `Sizes` of the crate `chart` and in `Straddling`, 14 as
--- `sample-report`; that section 7's table is the tightest, in `unchecked`) are not repeated. Nothing here is a rule of the tool: it is what rules come
--- to.
+-- another list has too (sections 5, 6, 8 and 10 in `starred`, references of two and four bytes in `Sizes` of the crate `chart` and in
+-- `Straddling`, 14 as `sample-report`; that section 7's table is the tightest, in `unchecked`; what section 15 has of the writer, in its own
+-- soundings) are not repeated. Nothing here is a rule of the tool: it is what rules come to.
 use Prim.Native.Nat.{ℕ, _*_, _/_, _%_}
 use mathlib.Core.Bool.{Bool, cond}
 use mathlib.Core.List.{List, [], _∷_, _++_}
@@ -11,6 +11,8 @@ use Rattle.chart.specs.Geometry.{mostNodes, blockOf, setOf, allPasses}
 use Rattle.chart.specs.Header.{fieldsIn, headerIn, headerNumbers}
 use Rattle.chart.specs.Chart.{recordsIn, nodeAt, chartIn}
 use Rattle.chart.specs.Sounded.{nodeOut, readOut}
+use Rattle.fields.specs.Fields.{readNodeSays}
+use Rattle.writer.specs.Sounded.{loopBytes}
 use Rattle.cache.specs.Plain.{has, touchSet, ageIn, emptyCache}
 use Rattle.flow.specs.Pass.{afterPasses}
 use Rattle.ages.specs.Charted.{planOf, agesFlow}
@@ -85,4 +87,7 @@ examples =
     ∷ ((analyseSays loopChart 1 (sevens 4 4 4 4 7) .number ∷ analyseSays loopChart 1 (sevens 4 4 4 4 7) .passes ∷ analyseSays loopChart 1 (sevens 4 4 4 4 7) .blocks ∷ []) reads (12 ∷ 1 ∷ 1 ∷ []))
     -- section 13: "refused 8 at 0"
     ∷ (report tooLong reads (114 ∷ 101 ∷ 102 ∷ 117 ∷ 115 ∷ 101 ∷ 100 ∷ 32 ∷ 56 ∷ 32 ∷ 97 ∷ 116 ∷ 32 ∷ 48 ∷ 10 ∷ []))
+    -- section 15: node 1, and the loop's bytes
+    ∷ (readNodeSays loopChart 1 .fields reads (1 ∷ 0 ∷ 0 ∷ 2 ∷ 1 ∷ 2 ∷ []))
+    ∷ (loopBytes reads loopChart)
     ∷ []

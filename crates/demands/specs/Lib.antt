@@ -1,4 +1,7 @@
 pub mod Demands
+pub mod Ordered
+pub mod Writing
+pub mod RoundTrip
 pub mod Demand1
 pub mod Demand2
 pub mod Demand3

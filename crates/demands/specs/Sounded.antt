@@ -19,6 +19,8 @@ use Rattle.chart.specs.Geometry.{longestChart, passesFor, allPasses}
 use Rattle.chart.specs.Sounded.{chartFields, nodeCounts, twinArrows}
 use Rattle.chart.specs.Sizes.{sizedTouches, sizesRefused, crowded}
 use Rattle.chart.specs.Claims.{ChartSounded}
+use Rattle.fields.specs.Sounded.{nodesRead, blocksListed, FieldsSounded}
+use Rattle.writer.specs.Sounded.{loopWritten, fieldsPacked, headingsRefused, nodesRefused, ordered, crowds, WriterSounded}
 use Rattle.report.specs.Report.{report}
 use Rattle.report.specs.Ending.{refuses, endingOf}
 use Rattle.chart.specs.Chart.{Chart}
@@ -103,6 +105,8 @@ pub record Sounded : Type 0 where
       → costOf chart (k * hitCost) (k * missCost) ts contents ≡ k * costOf chart hitCost missCost ts contents
   -- the reader's: fields, kinds, two arrows to one node, sizes, and the limits
   pub chart-sounded : ChartSounded
+  pub fields-sounded : FieldsSounded
+  pub writer-sounded : WriterSounded
   -- corners that the starred soundings leave out
   pub corners-hold : Hold corners
   -- what is right, and what each of five mistakes reads
@@ -111,4 +115,11 @@ pub record Sounded : Type 0 where
   -- the examples of docs/RULES.md
   pub examples-hold : Hold examples
   -- how many soundings each list has: none is dropped unseen
-  pub how-many : map length (chartFields ∷ nodeCounts ∷ twinArrows ∷ sizedTouches ∷ sizesRefused ∷ crowded ∷ starred ∷ damaged ∷ unanalysed ∷ unchecked ∷ looser ∷ untotalled ∷ summed ∷ corners ∷ sharedSoundings ∷ shapeSoundings ∷ leftBehind ∷ edges ∷ straddling ∷ straddlingPaid ∷ right ∷ mistaken ∷ examples ∷ []) ≡ 9 ∷ 12 ∷ 22 ∷ 19 ∷ 11 ∷ 8 ∷ 13 ∷ 26 ∷ 13 ∷ 13 ∷ 10 ∷ 20 ∷ 7 ∷ 16 ∷ 13 ∷ 6 ∷ 11 ∷ 12 ∷ 15 ∷ 11 ∷ 6 ∷ 6 ∷ 25 ∷ []
+  pub how-many : map length (chartFields ∷ nodeCounts ∷ twinArrows ∷ sizedTouches ∷ sizesRefused ∷ crowded ∷ [])
+      ++ map length (nodesRead ∷ blocksListed ∷ loopWritten ∷ fieldsPacked ∷ headingsRefused ∷ nodesRefused ∷ ordered ∷ crowds ∷ [])
+      ++ map length (starred ∷ damaged ∷ unanalysed ∷ unchecked ∷ looser ∷ untotalled ∷ summed ∷ corners ∷ sharedSoundings ∷ shapeSoundings ∷ [])
+      ++ map length (leftBehind ∷ edges ∷ straddling ∷ straddlingPaid ∷ right ∷ mistaken ∷ examples ∷ [])
+      ≡ (9 ∷ 12 ∷ 22 ∷ 19 ∷ 11 ∷ 8 ∷ [])
+      ++ (5 ∷ 5 ∷ 4 ∷ 1 ∷ 24 ∷ 31 ∷ 7 ∷ 2 ∷ [])
+      ++ (13 ∷ 26 ∷ 13 ∷ 13 ∷ 10 ∷ 20 ∷ 7 ∷ 16 ∷ 13 ∷ 6 ∷ [])
+      ++ (11 ∷ 12 ∷ 15 ∷ 11 ∷ 6 ∷ 6 ∷ 27 ∷ [])

@@ -64,6 +64,31 @@ pub first-after : {X Y : Type 0} (say : X → Y) (cases more : List (Case X)) (y
 first-after say [] more y none = refl
 first-after say ((test ⇒ answer) ∷ cases) more y none = rw (none .0) (first-after say cases more y (none .1))
 
+-- Cases one after another: none of all applies exactly if none of either part does.
+pub none-front : {X : Type 0} (cases more : List (Case X)) → NoneApplies (cases ++ more) → NoneApplies cases
+none-front [] more none = tt
+none-front ((test ⇒ answer) ∷ cases) more none = (none .0, none-front cases more (none .1))
+
+pub none-back : {X : Type 0} (cases more : List (Case X)) → NoneApplies (cases ++ more) → NoneApplies more
+none-back [] more none = none
+none-back ((test ⇒ answer) ∷ cases) more none = none-back cases more (none .1)
+
+pub none-both : {X : Type 0} (cases more : List (Case X)) → NoneApplies cases → NoneApplies more → NoneApplies (cases ++ more)
+none-both [] more none rest = rest
+none-both ((test ⇒ answer) ∷ cases) more none rest = (none .0, none-both cases more (none .1) rest)
+
+-- The first of all is the first of the front, or of the rest.
+pub first-either : {X : Type 0} (cases more : List (Case X)) (x : X) → FirstApplies (cases ++ more) x → FirstApplies cases x ⊎ FirstApplies more x
+first-either [] more x f = inr f
+first-either ((test ⇒ answer) ∷ cases) more x (inl e) = inl (inl e)
+first-either ((test ⇒ answer) ∷ cases) more x (inr e) = ⊎-elim (λ (f : FirstApplies cases x). inl (inr (e .0, f))) (λ (f : FirstApplies more x). inr f) (first-either cases more x (e .1))
+
+-- What is made of the answer is made of each case's.
+pub first-through : {X Y Z : Type 0} (make : Y → Z) (say : X → Y) (cases : List (Case X)) (y : Y) → make (firstCase say cases y) ≡ firstCase (λ x. make (say x)) cases (make y)
+first-through make say [] y = refl
+first-through make say ((true ⇒ answer) ∷ cases) y = refl
+first-through make say ((false ⇒ answer) ∷ cases) y = first-through make say cases y
+
 -- A rule that is the first to apply gives the answer, and an answer that a rule gives is the first's.
 pub first-applies : {X Y : Type 0} (say : X → Y) (cases : List (Case X)) (y : Y) (x : X) → FirstApplies cases x → firstCase say cases y ≡ say x
 first-applies say [] y x f = absurd f

@@ -5,7 +5,7 @@ use mathlib.Core.Logic.{⊎-elim}
 use mathlib.Core.Path.{_≡_, refl, sym, ap, _∙_}
 use Prim.Native.Nat.{ℕ, zero, suc, _+_, _≤_, _<_}
 use native.Mathlib.Numerals.{add-one}
-use native.Mathlib.Nat.{zero-add, eq-or-lt-of-le, le-of-suc-le-suc}
+use native.Mathlib.Nat.{zero-add, add-zero, add-assoc, add-suc, eq-or-lt-of-le, le-of-suc-le-suc}
 use native.Mathlib.Omega.{arith}
 use lib.ListN.{length, getD, set, take, drop, length-set, length-append, take-append-drop, drop-of-length-le}
 use lib.Seq.{getD-set-same, getD-set-other, length-take-le, drop-cons, set-at, set-set, set-comm}
@@ -37,6 +37,12 @@ patch-turn l base n f cur v e d = rw (patch-more, e, d)
 
 pub patch-turn0 : (l : List ℕ) (n : ℕ) (f : ℕ → ℕ) (cur : List ℕ) (v : ℕ) → cur ≡ patch l 0 n f → v ≡ f n → set cur n v ≡ patch l 0 (n + 1) f
 patch-turn0 l n f cur v e d = rw zero-add at (patch-turn l 0 n f cur v e d)
+
+-- So many turns at once: what they store behind what is there.
+pub patch-patch : (l : List ℕ) (base n : ℕ) (f : ℕ → ℕ) (cur : List ℕ) (k : ℕ) (g : ℕ → ℕ) → cur ≡ patch l base n f → ((j : ℕ) → j < k → g j ≡ f (n + j)) → patch cur (base + n) k g ≡ patch l base (n + k) f
+patch-patch l base n f cur zero g e same = rw add-zero e
+patch-patch l base n f cur (suc k) g e same =
+    rw (patch-patch l base n f cur k g e (λ j h. same j (omega arith)), same k (omega arith), add-assoc, add-suc)
 
 -- The place that a turn reads is as it was at the start.
 pub patch-read : (l : List ℕ) (base n : ℕ) (f : ℕ → ℕ) (cur : List ℕ) → cur ≡ patch l base n f → getD cur (base + n) 0 ≡ getD l (base + n) 0

@@ -1,6 +1,6 @@
 -- Lists by their elements, whether two are the same, a list laid over the start of another, and a sum.
--- Rules 12.1 and 12.2, of one list alone (`padded`, `written`); all else here is no rule of the tool, and definitions are put together of it.
--- Choices: both are for lists that fit. What is longer than its buffer or its places is not cut.
+-- Rules 12.1, 12.2, 15.2 and 15.5, of one list alone (`padded`, `written`); all else here is no rule of the tool, and definitions are put
+-- together of it. Choices: both are for lists that fit. What is longer than its buffer or its places is not cut.
 use mathlib.Core.Bool.{Bool, true, false, _&&_}
 use mathlib.Core.List.{List, [], _∷_, _++_}
 use mathlib.Core.Logic.{_⊎_}
@@ -40,7 +40,7 @@ abbrev pub joined : {X : Type 0} → List (List X) → List X
 joined [] = []
 joined (l ∷ ls) = l ++ joined ls
 
--- Rule 12.2, of one buffer: `new` written over its start, and all beyond that as it was.
+-- Rules 12.2, 15.2 and 15.5, of one buffer: `new` written over its start, and all beyond that as it was.
 abbrev pub written : {X : Type 0} → List X → List X → List X
 written new lent = new ++ drop (length new) lent
 

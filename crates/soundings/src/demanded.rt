@@ -2,6 +2,7 @@
 ghost use Rattle.demands.specs.Demand1.{Demand1};
 ghost use Rattle.demands.specs.Demand2.{Demand2};
 ghost use Rattle.demands.specs.Demand3.{Demand3};
+ghost use Rattle.demands.specs.RoundTrip.{RoundTrip};
 ghost use Rattle.demands.specs.Sounded.{Sounded};
 
 // Any bytes and any buffer lengths get an answer or a numbered refusal.
@@ -17,6 +18,11 @@ pub(crate) fn says_most()
 // What a class calls a hit hits, what it calls a miss misses, and the cost lies between the totals.
 pub(crate) fn says_so()
     ensures { λ _. ⌜ Demand3 ⌝ }
+{}
+
+// What was written reads back, and what was read is written again.
+pub(crate) fn comes_back()
+    ensures { λ _. ⌜ RoundTrip ⌝ }
 {}
 
 // The definitions give what the soundings want.

@@ -1,9 +1,10 @@
 // A program that runs the sounding of the totals: the loop chart is analysed, its table checked, and its totals taken. It reads a record that writes,
-// and stands on the proofs of the three demands and of the soundings. It takes no input, and prints the same each time.
+// and stands on the proofs of the three demands, of the round trip and of the soundings. It takes no input, and prints the same each time.
 mod demanded;
 mod sounding;
 
 use crate::demanded::asked_anything;
+use crate::demanded::comes_back;
 use crate::demanded::says_most;
 use crate::demanded::says_so;
 use crate::demanded::sounded;
@@ -90,6 +91,8 @@ fn print_demanded() {
     io::write_all(STDOUT_FILENO, b"demand 2 is proved\n");
     says_so();
     io::write_all(STDOUT_FILENO, b"demand 3 is proved\n");
+    comes_back();
+    io::write_all(STDOUT_FILENO, b"the round trip is proved\n");
     sounded();
     io::write_all(STDOUT_FILENO, b"the soundings are proved\n");
 }

@@ -31,9 +31,7 @@ pub fn case(random: &mut Random) -> Case {
     let (ages, classes) = (nodes * blocks, TOUCHES * nodes);
     Case {
         function: Function::Analyse,
-        allowance: allowance as u64,
-        hit: 0,
-        miss: 0,
+        numbers: vec![allowance as u64],
         returned: answer.number(),
         buffers: vec![
             Buffer::whole(&bytes),

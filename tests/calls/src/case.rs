@@ -11,15 +11,28 @@ pub enum Function {
     Analyse = 2,
     Check = 3,
     Total = 4,
+    Node = 5,
+    Blocks = 6,
+    Write = 7,
 }
 
-/// A call. The numbers that its function does not take are 0; the buffers are in the order of the C function's parameters.
+impl Function {
+    pub const ALL: [Function; 7] = [
+        Function::Read,
+        Function::Analyse,
+        Function::Check,
+        Function::Total,
+        Function::Node,
+        Function::Blocks,
+        Function::Write,
+    ];
+}
+
+/// A call. Its numbers and its buffers are in the order of the C function's parameters.
 #[derive(Clone, Debug)]
 pub struct Case {
     pub function: Function,
-    pub allowance: u64,
-    pub hit: u16,
-    pub miss: u16,
+    pub numbers: Vec<u64>,
     pub returned: u64,
     pub buffers: Vec<Buffer>,
 }
@@ -40,21 +53,18 @@ impl Case {
         }
     }
 
-    /// The lists that numbers are told in: the last buffer, and of veilbuzz_read the one before it too.
+    /// The lists that numbers are told in: the last buffer, and of veilbuzz_read and veilbuzz_node the one before it too.
     pub fn lists(&self) -> &[Buffer] {
-        let lists = if self.function == Function::Read { 2 } else { 1 };
+        let both = matches!(self.function, Function::Read | Function::Node);
+        let lists = if both { 2 } else { 1 };
         &self.buffers[self.buffers.len() - lists..]
     }
 
     /// A case as bytes: the function, the numbers, what is returned, and each buffer.
     pub fn write(&self, out: &mut impl Write) -> Result<()> {
         out.write_all(&[self.function as u8])?;
-        out.write_all(&flat(&[
-            self.allowance,
-            self.hit.into(),
-            self.miss.into(),
-            self.returned,
-        ]))?;
+        out.write_all(&flat(&self.numbers))?;
+        out.write_all(&flat(&[self.returned]))?;
         self.buffers.iter().try_for_each(|buffer| buffer.write(out))
     }
 }

@@ -20,9 +20,7 @@ pub fn case(random: &mut Random) -> Case {
     buffers.push(answer.told(random));
     Case {
         function: Function::Check,
-        allowance: 0,
-        hit: 0,
-        miss: 0,
+        numbers: vec![],
         returned: answer.number(),
         buffers,
     }

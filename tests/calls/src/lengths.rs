@@ -14,6 +14,16 @@ pub fn around(random: &mut Random, needed: usize) -> usize {
     }
 }
 
+/// The length of a buffer that has to have just so many elements: one more, one less, or few, each once in so many times.
+pub fn just(random: &mut Random, needed: usize, turns: u64) -> usize {
+    match random.below(turns) {
+        0 => needed + 1,
+        1 => needed.saturating_sub(1),
+        2 => random.below(4) as usize,
+        _ => needed,
+    }
+}
+
 /// The length of a list of numbers, of which so many are needed.
 pub fn list(random: &mut Random, needed: usize) -> usize {
     match random.below(2) {

@@ -1,5 +1,5 @@
-//! Calls of the four C functions with what each has to answer and to leave, worked out by the second program. `record` writes them to a
-//! file, and calls.c, which knows nothing of charts, makes the calls and compares.
+//! Calls of the C functions with what each has to answer and to leave, worked out by the second program. `record` writes them to a file, and
+//! calls.c, which knows nothing of charts, makes the calls and compares.
 
 mod analysing;
 mod answers;
@@ -7,11 +7,15 @@ mod buffer;
 mod case;
 mod checking;
 mod element;
+pub mod given;
 mod inputs;
 mod lengths;
+mod listing;
+mod one_node;
 mod reading;
 mod tables;
 mod totalling;
+mod writing;
 pub mod wrong;
 
 pub use buffer::Buffer;
@@ -22,13 +26,16 @@ use charts::random::Random;
 /// The seed that `record` takes unless it is given another.
 pub const SEED: u64 = 20_250_701;
 
-/// The case of a number: the functions take turns, and all else is the seed's.
+/// The case of a number: the functions take turns, the totals two, since they have the most refusals; all else is the seed's.
 pub fn case(seed: u64, number: u64) -> Case {
     let mut random = Random::new(seed.wrapping_add(number));
-    let roomy = match number % 4 {
+    let roomy = match number % 8 {
         0 => reading::case(&mut random),
         1 => analysing::case(&mut random),
         2 => checking::case(&mut random),
+        3 => one_node::case(&mut random),
+        4 => listing::case(&mut random),
+        5 => writing::case(&mut random),
         _ => totalling::case(&mut random),
     };
     roomy.with_regard_to_room()

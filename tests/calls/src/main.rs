@@ -1,4 +1,4 @@
-//! Writes so many cases to standard output:  record 20000 [SEED]
+//! Writes so many cases to standard output:  record 40000 [SEED]
 //! Or those that are wrong on purpose, by their name:  record spoilt
 
 use calls::{wrong, Case, SEED};

@@ -4,6 +4,7 @@ use crate::answers::Answer;
 use crate::buffer::Buffer;
 use crate::case::{Case, Function};
 use crate::inputs;
+use crate::lengths::just;
 use crate::tables::Table;
 use charts::random::Random;
 use second::cache::Costs;
@@ -32,9 +33,7 @@ pub fn case(random: &mut Random) -> Case {
     buffers.extend([floors, ceilings, answer.told(random)]);
     Case {
         function: Function::Total,
-        allowance: 0,
-        hit: costs.hit,
-        miss: costs.miss,
+        numbers: vec![costs.hit.into(), costs.miss.into()],
         returned: answer.number(),
         buffers,
     }
@@ -78,13 +77,8 @@ fn visits(random: &mut Random, marked: bool) -> (u16, u16) {
     }
 }
 
-/// Floors or ceilings, one too few or too many once in sixteen times, or none.
+/// Floors or ceilings, not as many as there are nodes once in sixteen times.
 fn bound(random: &mut Random, bounds: Vec<u16>) -> Buffer {
-    let length = match random.below(48) {
-        0 => bounds.len() + 1,
-        1 => bounds.len().saturating_sub(1),
-        2 => random.below(4) as usize,
-        _ => bounds.len(),
-    };
+    let length = just(random, bounds.len(), 48);
     Buffer::reads(random, &bounds, bounds.len(), length)
 }

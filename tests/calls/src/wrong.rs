@@ -21,7 +21,7 @@ pub fn cases(name: &str) -> Option<Vec<Case>> {
 /// Calls that each differ in one place from what is expected: in the number returned, or in a buffer that is written, be it the first
 /// byte or the last of the used part, or the first of the tail.
 fn spoilt() -> Vec<Case> {
-    [Function::Read, Function::Analyse, Function::Check, Function::Total]
+    Function::ALL
         .into_iter()
         .flat_map(|function| {
             let right = right(function);

@@ -7,7 +7,7 @@ use second::chart::Chart;
 use std::collections::BTreeMap;
 
 /// As many as the run under valgrind has, the shortest of all.
-const CASES: u64 = 20_000;
+const CASES: u64 = 40_000;
 
 fn cases() -> impl Iterator<Item = Case> {
     (0..CASES).map(|number| calls::case(SEED, number))
@@ -23,7 +23,7 @@ fn tally<K: Ord>(keys: impl Iterator<Item = K>) -> BTreeMap<K, usize> {
 }
 
 /// Which numbers each function returns: 0 and its refusals.
-const RETURNED: [(Function, &[u64]); 4] = [
+const RETURNED: [(Function, &[u64]); 7] = [
     (Function::Read, &[0, 1, 2, 3, 4, 5, 6, 7, 8, 9, 10, 11]),
     (Function::Analyse, &[0, 1, 2, 3, 4, 5, 6, 7, 8, 9, 10, 11, 12]),
     (Function::Check, &[0, 1, 2, 3, 4, 5, 6, 7, 8, 9, 10, 11]),
@@ -31,6 +31,9 @@ const RETURNED: [(Function, &[u64]); 4] = [
         Function::Total,
         &[0, 1, 2, 3, 4, 5, 6, 7, 8, 9, 10, 11, 13, 14, 15, 16, 17],
     ),
+    (Function::Node, &[0, 1, 2, 3, 4, 5, 6, 7, 8, 9, 10, 11]),
+    (Function::Blocks, &[0, 1, 2, 3, 4, 5, 6, 7, 8, 9, 10, 11]),
+    (Function::Write, &[0, 3, 4, 5, 6, 8, 9, 10, 11]),
 ];
 
 #[test]
@@ -46,16 +49,23 @@ fn each_function_gives_each_of_its_refusals_and_no_other() {
     }
 }
 
-/// Holds each function to refusing such records, in a chart of so many nodes, so often.
+/// The chart of a case that reads one.
+fn chart(case: &Case) -> Option<Vec<u8>> {
+    (case.function != Function::Write).then(|| case.buffers[0].elements::<u8>())
+}
+
+/// Holds each function that reads a chart to refusing such records, in a chart of so many nodes, so often.
 fn each_function_refuses(least: usize, fault: fn([u8; 8], usize) -> bool) {
     let faulty = |case: &Case| {
-        let chart = case.buffers[0].elements::<u8>();
-        Chart::read(&chart)
-            .is_err_and(|refusal| refusal.number == 9 && fault(record_of(&chart, refusal.place), chart.len() / 8 - 1))
+        chart(case).is_some_and(|chart| {
+            Chart::read(&chart).is_err_and(|refusal| {
+                refusal.number == 9 && fault(record_of(&chart, refusal.place), chart.len() / 8 - 1)
+            })
+        })
     };
     let refused = cases().filter(|case| case.returned == 9 && faulty(case));
     let met = tally(refused.map(|case| case.function));
-    assert!(met.len() == 4 && met.values().all(|&times| times >= least), "{met:?}");
+    assert!(met.len() == 6 && met.values().all(|&times| times >= least), "{met:?}");
 }
 
 #[test]
@@ -69,11 +79,14 @@ fn each_function_refuses_a_record_for_its_size() {
 }
 
 /// The buffers that refusal 11 speaks of, by their places among the parameters.
-const REFUSED_IF_SHORT: [(Function, &[usize]); 4] = [
+const REFUSED_IF_SHORT: [(Function, &[usize]); 7] = [
     (Function::Read, &[1, 2]),
     (Function::Analyse, &[1, 2, 3, 4, 5, 6]),
     (Function::Check, &[1, 2, 3, 4]),
     (Function::Total, &[1, 2, 3, 6]),
+    (Function::Node, &[1, 2]),
+    (Function::Blocks, &[1, 2]),
+    (Function::Write, &[6, 7]),
 ];
 
 #[test]
@@ -127,7 +140,7 @@ fn each_buffer_of_an_accepted_call_is_longer_just_right_and_empty() {
         }
     }
     // Block numbers and ages of a chart of bare steps.
-    for function in [Function::Analyse, Function::Check, Function::Total] {
+    for function in [Function::Analyse, Function::Check, Function::Total, Function::Blocks] {
         let times = met.get(&(function, 1, "empty")).copied().unwrap_or(0);
         assert!(times >= 5, "buffer 1 of {function:?} is empty only {times} times");
     }
@@ -145,6 +158,9 @@ fn each_buffer_is_empty_and_then_lent_as_no_memory_at_all() {
         (Function::Analyse, 7),
         (Function::Check, 5),
         (Function::Total, 7),
+        (Function::Node, 3),
+        (Function::Blocks, 3),
+        (Function::Write, 8),
     ] {
         for place in 0..buffers {
             let times = met.get(&(function, place)).copied().unwrap_or(0);
@@ -158,18 +174,15 @@ fn a_call_without_room_for_its_answer_is_11_whatever_else_is_lent() {
     let short = |case: &Case| case.lists().iter().any(calls::Buffer::is_short);
     let met = tally(cases().filter(short).map(|case| (case.function, case.returned)));
     assert_eq!(met.keys().filter(|key| key.1 != 11).count(), 0);
-    assert!(met.len() == 4 && met.values().all(|&times| times >= 500), "{met:?}");
+    assert!(met.len() == 7 && met.values().all(|&times| times >= 500), "{met:?}");
 }
 
 #[test]
 fn lists_of_numbers_have_0_to_10_places() {
     let met = tally(cases().flat_map(|case| {
-        let last = case.buffers.len() - 1;
-        let mut lists = vec![(case.function, last, case.buffers[last].length)];
-        if case.function == Function::Read {
-            lists.push((case.function, 1, case.buffers[1].length));
-        }
-        lists
+        let first = case.buffers.len() - case.lists().len();
+        let list = |place: usize| (case.function, place, case.buffers[place].length);
+        (first..case.buffers.len()).map(list).collect::<Vec<_>>()
     }));
     let lists = [
         (Function::Read, 1),
@@ -177,6 +190,10 @@ fn lists_of_numbers_have_0_to_10_places() {
         (Function::Analyse, 6),
         (Function::Check, 4),
         (Function::Total, 6),
+        (Function::Node, 1),
+        (Function::Node, 2),
+        (Function::Blocks, 2),
+        (Function::Write, 7),
     ];
     for (function, place) in lists {
         for length in 0..=10 {

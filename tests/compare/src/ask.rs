@@ -1,12 +1,15 @@
-//! The four functions, asked of the archive through the wrapper and of the second program: their answers, and all that was lent.
+//! The functions, asked of the archive through the wrapper and of the second program: their answers, and all that was lent.
 
 use crate::expected;
+use crate::given::Given;
+use crate::given_lent::LentGiven;
 use crate::guarded::Guarded;
 use crate::lent::Lent;
 use crate::same::{same, Held};
 use crate::table::LentTable;
 use crate::tally::{Tally, ANSWER};
-use veilbuzz::{Bounds, Costs, Header, Refusal, Settled, Totals, Unsettled};
+use charts::random::Random;
+use veilbuzz::{Bounds, Costs, Fields, Header, Refusal, Settled, Totals, Unsettled};
 
 /// Counts an answer of a function by the number of its refusal, 0 for none.
 fn counted<T>(tally: &mut Tally, function: &'static str, answer: &Result<T, Refusal>) {
@@ -16,6 +19,9 @@ fn counted<T>(tally: &mut Tally, function: &'static str, answer: &Result<T, Refu
 
 /// How the answers of each function are counted.
 pub const READ: &str = "read, refusal";
+pub const NODE: &str = "node, refusal";
+pub const BLOCKS: &str = "blocks, refusal";
+pub const WRITE: &str = "write, refusal";
 pub const ANALYSE: &str = "analyse, refusal";
 pub const CHECK: &str = "check, refusal";
 pub const TOTAL: &str = "total, refusal";
@@ -25,6 +31,40 @@ pub fn read(tally: &mut Tally, chart: &[u8]) -> Held<Result<Header, Refusal>> {
     same("read", &answer, &expected::read(chart))?;
     counted(tally, READ, &answer);
     Ok(answer)
+}
+
+pub fn node(tally: &mut Tally, chart: &[u8], number: usize) -> Held<Result<Option<Fields>, Refusal>> {
+    let answer = veilbuzz::node(chart, number);
+    same(&format!("node {number}"), &answer, &expected::node(chart, number))?;
+    counted(tally, NODE, &answer);
+    Ok(answer)
+}
+
+/// Lists the blocks in copies of what is lent. The answer, and what the archive has left in its copy.
+pub fn blocks(tally: &mut Tally, chart: &[u8], lent: &Guarded<u32>) -> Held<(Result<usize, Refusal>, Guarded<u32>)> {
+    let (mut ours, mut second) = (lent.clone(), lent.clone());
+    let answer = veilbuzz::blocks(chart, ours.lent_mut());
+    same("blocks", &answer, &expected::blocks(chart, second.lent_mut()))?;
+    ours.same("the list of blocks", &second)?;
+    counted(tally, BLOCKS, &answer);
+    Ok((answer, ours))
+}
+
+/// Writes into copies of what is lent. The answer, and what the archive has left in its copy.
+pub fn write(
+    random: &mut Random,
+    tally: &mut Tally,
+    given: &Given,
+    lent: &Guarded<u8>,
+) -> Held<(Result<usize, Refusal>, Guarded<u8>)> {
+    let lists = LentGiven::of(random, given);
+    let (before, mut ours, mut second) = (lists.clone(), lent.clone(), lent.clone());
+    let answer = veilbuzz::write(lists.heading(), &lists.node_lists(), ours.lent_mut());
+    same("write", &answer, &expected::write(given, second.lent_mut()))?;
+    ours.same("the chart", &second)?;
+    lists.same(&before)?;
+    counted(tally, WRITE, &answer);
+    Ok((answer, ours))
 }
 
 /// Analyses into copies of what is lent. The answer, and what the archive has left in its copy.

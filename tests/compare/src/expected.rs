@@ -1,14 +1,19 @@
 //! The second program's answers in the wrapper's words.
 
+use crate::given::Given;
 use crate::lent::Lent;
 use crate::table::LentTable;
 use second::analysis::{self, Analysed};
+use second::blocks;
 use second::cache;
 use second::chart::Chart;
 use second::checker;
 use second::header;
+use second::node;
+use second::record::RecordFields;
 use second::totals;
-use veilbuzz::{Bounds, Costs, Header, Refusal, Settled, Start, Totals, Unsettled};
+use second::writer;
+use veilbuzz::{Bounds, Costs, Fields, Header, Refusal, Settled, Start, Totals, Unsettled};
 
 fn refusal(refusal: second::refusal::Refusal) -> Refusal {
     Refusal {
@@ -31,6 +36,31 @@ pub fn read(bytes: &[u8]) -> Result<Header, Refusal> {
         entry: chart.header.entry,
         blocks: chart.blocks.len(),
     })
+}
+
+/// What a record holds.
+pub fn fields(record: RecordFields) -> Fields {
+    Fields {
+        kind: record.kind,
+        address: record.address,
+        size: record.size,
+        outs: record.outs,
+        first: record.first,
+        second: record.second,
+    }
+}
+
+pub fn node(bytes: &[u8], number: usize) -> Result<Option<Fields>, Refusal> {
+    let node = node::node(bytes, number).map_err(refusal)?;
+    Ok(node.map(fields))
+}
+
+pub fn blocks(bytes: &[u8], lent: &mut [u32]) -> Result<usize, Refusal> {
+    blocks::blocks(bytes, lent).map_err(refusal)
+}
+
+pub fn write(given: &Given, lent: &mut [u8]) -> Result<usize, Refusal> {
+    writer::write(given.to_header(), given.to_lists(), lent).map_err(refusal)
 }
 
 pub fn analyse(bytes: &[u8], allowance: usize, lent: &mut Lent) -> Result<Settled, Unsettled> {

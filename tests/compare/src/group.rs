@@ -1,9 +1,11 @@
+use crate::given::Given;
 use crate::same::Held;
 use crate::settings::Settings;
 use crate::shown::shown;
 use crate::tally::{Tally, CHART};
 use crate::trial::trial;
 use crate::watch::Watch;
+use crate::writing::hold_with;
 use charts::random::Random;
 use std::io::{stdout, Write};
 use std::time::{Duration, Instant};
@@ -38,6 +40,21 @@ impl Group {
     pub fn hold(&mut self, chart: &[u8], work: impl FnOnce(&mut Random, &mut Tally, &[u8]) -> Held) {
         self.tally.add(CHART);
         self.told(chart, work);
+    }
+
+    /// What one chart is written from, to the writer, with room for it.
+    pub fn write(&mut self, given: &Given) {
+        let length = given.used() + self.random.below(4) as usize;
+        self.write_to(given, length);
+    }
+
+    /// The same with a buffer of such a length.
+    pub fn write_to(&mut self, given: &Given, length: usize) {
+        self.tally.add(CHART);
+        self.watch.now(self.tally.charts());
+        if let Err(words) = hold_with(&mut self.random, &mut self.tally, given, length) {
+            panic!("{}: {words}", self.name);
+        }
     }
 
     fn told(&mut self, chart: &[u8], work: impl FnOnce(&mut Random, &mut Tally, &[u8]) -> Held) {

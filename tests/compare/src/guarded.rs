@@ -58,6 +58,11 @@ pub fn byte(number: u64) -> u8 {
     number as u8
 }
 
+/// A byte that says little of the number.
+pub fn noise(number: u64) -> u8 {
+    (number.wrapping_mul(0x9E37_79B9_7F4A_7C15) >> 56) as u8
+}
+
 pub fn short(number: u64) -> u16 {
     number as u16
 }

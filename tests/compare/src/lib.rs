@@ -3,16 +3,23 @@
 //!
 //! A difference is told with the seed, the chart's number, its bytes, and the command that has it again.
 
+pub mod apart;
 pub mod ask;
 pub mod bounds;
 pub mod crowds;
 pub mod draw;
 pub mod expected;
 pub mod features;
+pub mod given;
+pub mod given_damage;
+pub mod given_drawn;
+pub mod given_lent;
+pub mod given_wide;
 pub mod group;
 pub mod guarded;
 pub mod lent;
 pub mod raw;
+pub mod raw_parts;
 pub mod run;
 pub mod same;
 pub mod settings;
@@ -26,3 +33,5 @@ pub mod trial;
 pub mod twins;
 pub mod walks;
 pub mod watch;
+pub mod writing;
+pub mod written;

@@ -22,7 +22,7 @@ pub const READ_ROOM: &str = "room in the lists of veilbuzz_read";
 const NO_ROOM: u64 = 11;
 
 /// The numbers of a refusal: its number, its place, and zeros for what the function alone returns.
-fn refused<const NUMBERS: usize>(refusal: Refusal) -> [u64; NUMBERS] {
+pub(crate) fn refused<const NUMBERS: usize>(refusal: Refusal) -> [u64; NUMBERS] {
     let mut numbers = [0; NUMBERS];
     numbers[raw::NUMBER] = refusal.number as u64;
     numbers[raw::PLACE] = refusal.place as u64;
@@ -30,7 +30,7 @@ fn refused<const NUMBERS: usize>(refusal: Refusal) -> [u64; NUMBERS] {
 }
 
 /// A list for so many numbers, with room for them or not.
-fn list(random: &mut Random, numbers: usize) -> Guarded<u64> {
+pub(crate) fn list(random: &mut Random, numbers: usize) -> Guarded<u64> {
     let length = match random.below(12) as usize {
         11 => numbers,
         length => length,
@@ -38,19 +38,19 @@ fn list(random: &mut Random, numbers: usize) -> Guarded<u64> {
     Guarded::of(random, length, long)
 }
 
-fn has_room(list: &Guarded<u64>, numbers: usize) -> bool {
+pub(crate) fn has_room(list: &Guarded<u64>, numbers: usize) -> bool {
     list.lent().len() >= numbers
 }
 
 /// A list after numbers were told in it: it keeps what is behind them.
-fn told(list: &Guarded<u64>, numbers: &[u64]) -> Guarded<u64> {
+pub(crate) fn told(list: &Guarded<u64>, numbers: &[u64]) -> Guarded<u64> {
     let mut list = list.clone();
     list.lent_mut()[..numbers.len()].copy_from_slice(numbers);
     list
 }
 
 /// Holds a function to the numbers of its answer, or where there are none, for want of room, to 11 and a list that is left as it was.
-fn tells<const NUMBERS: usize>(
+pub(crate) fn tells<const NUMBERS: usize>(
     tally: &mut Tally,
     what: &str,
     mut answer: Guarded<u64>,

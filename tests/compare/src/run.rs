@@ -1,6 +1,8 @@
 //! Many random charts, on all processors, until they are done or the time is.
 
 use crate::draw;
+use crate::given::Given;
+use crate::given_drawn;
 use crate::same::Held;
 use crate::settings::{Settings, LEAST};
 use crate::shown::shown;
@@ -17,13 +19,18 @@ use std::time::{Duration, Instant};
 /// How long a chart that is under way at the end may take.
 const GRACE: Duration = Duration::from_secs(60);
 
-/// The chart of a seed through everything.
+/// The chart of a seed through everything, and what another is written from through the writer.
 fn one(seed: u64, tally: &mut Tally) -> Held {
     let mut random = Random::new(seed);
     let chart = draw::chart(&mut random);
-    catch_unwind(AssertUnwindSafe(|| trial(&mut random, tally, &chart)))
-        .unwrap_or_else(|_| Err("a panic, told above".into()))
-        .map_err(|words| format!("{words}\nof {}", shown(&chart)))
+    caught(|| trial(&mut random, tally, &chart)).map_err(|words| format!("{words}\nof {}", shown(&chart)))?;
+    let whole = Given::of_chart(&draw::whole(&mut random));
+    caught(|| given_drawn::trial(&mut random, tally, &whole))
+}
+
+/// What work comes to, also if it panics.
+fn caught(work: impl FnOnce() -> Held) -> Held {
+    catch_unwind(AssertUnwindSafe(work)).unwrap_or_else(|_| Err("a panic, told above".into()))
 }
 
 /// Compares charts from the first seed on. What occurred, or words for the first difference that was found.

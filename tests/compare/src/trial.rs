@@ -1,5 +1,6 @@
 //! One chart through everything.
 
+use crate::apart::node_and_blocks;
 use crate::ask;
 use crate::bounds::Question;
 use crate::crowds;
@@ -15,6 +16,7 @@ use crate::tables::{almost, never, noise, passing, NOISE};
 use crate::tally::{Tally, CHART};
 use crate::twins;
 use crate::walks;
+use crate::writing::again;
 use charts::random::Random;
 use second::chart::Chart;
 use veilbuzz::{Header, PASSES, TOUCHES};
@@ -27,7 +29,10 @@ pub fn trial(random: &mut Random, tally: &mut Tally, chart: &[u8]) -> Held {
     if random.once_in(4) {
         raw::read(random, tally, chart)?;
     }
-    match ask::read(tally, chart)? {
+    let answer = ask::read(tally, chart)?;
+    node_and_blocks(random, tally, chart, answer)?;
+    again(random, tally, chart, answer)?;
+    match answer {
         Ok(header) => accepted(random, tally, chart, header),
         Err(refusal) => {
             twins::count(tally, chart, refusal);

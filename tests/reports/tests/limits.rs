@@ -66,10 +66,11 @@ const PLACES: [(&str, &[usize]); 7] = [
 ];
 
 /// Soundings, which the prover holds to the definitions, and texts of what was measured and of what has moved.
-const LEFT_OUT: [&str; 7] = [
+const LEFT_OUT: [&str; 8] = [
     "crates/chart/specs/Sounded.antt",
     "crates/demands/specs/Anywhere.antt",
     "crates/demands/specs/Sounded.antt",
+    "crates/writer/specs/Sounded.antt",
     "docs/SPEED.md",
     "docs/growth.svg",
     "docs/landings/",
@@ -77,13 +78,18 @@ const LEFT_OUT: [&str; 7] = [
 ];
 
 /// The same numbers where they are no limits: weights of bits, an address, and a stack in KiB.
-const OTHERS: [(&str, &[usize]); 7] = [
+const OTHERS: [(&str, &[usize]); 9] = [
     ("crates/chart/proofs/Bytes.antt", &[1_024]),
     ("crates/chart/specs/Bytes.antt", &[1_024]),
     ("crates/chart/specs/Sizes.antt", &[1_024]),
     ("crates/chart/src/words.rt", &[65_536]),
     ("crates/demands/specs/Charts.antt", &[1_024]),
     ("crates/demands/specs/Straddling.antt", &[1_024]),
+    (
+        "crates/writer/must-fail/first_and_second_arrow_swapped.edit",
+        &[65_536, 65_536],
+    ),
+    ("crates/writer/src/packing.rt", &[65_536, 1_024, 65_536, 65_536]),
     ("tests/reports/tests/stack.rs", &[1_024]),
 ];
 

@@ -190,10 +190,15 @@ fn runs(text: &str) -> Vec<String> {
 
 #[test]
 fn the_numbers_of_an_example_stand_in_the_soundings() {
-    let sounded: Vec<String> = ["Charts", "Examples", "Soundings"]
-        .iter()
-        .map(|name| text(&format!("crates/demands/specs/{name}.antt")))
-        .collect();
+    let sounded: Vec<String> = [
+        "demands/specs/Charts",
+        "demands/specs/Examples",
+        "demands/specs/Soundings",
+        "writer/specs/Sounded",
+    ]
+    .iter()
+    .map(|name| text(&format!("crates/{name}.antt")))
+    .collect();
     let sounded = sounded
         .join("\n")
         .replace("0x", "")

@@ -3,7 +3,7 @@
 use crate::geometry::Geometry;
 use crate::header::Header;
 use crate::limits::{BLOCKS, TOUCHES};
-use crate::record::{Arrows, Record, Reference};
+use crate::record::{Arrows, Record, RecordFields, Reference};
 use crate::refusal::Refusal;
 
 /// A node: which blocks it touches, if it is a reference, and where it leads.
@@ -34,7 +34,7 @@ pub struct Chart {
 impl Chart {
     pub fn read(bytes: &[u8]) -> Result<Chart, Refusal> {
         let header = Header::read(bytes)?;
-        let records = records(&bytes[8..], header.nodes)?;
+        let records = kept(bytes, header.nodes)?;
         let blocks = blocks(&records, header.geometry)?;
         let sets = blocks.iter().map(|&block| header.geometry.set_of(block)).collect();
         let nodes = records
@@ -60,14 +60,22 @@ impl Chart {
     }
 }
 
-fn records(bytes: &[u8], nodes: usize) -> Result<Vec<Record>, Refusal> {
-    bytes
-        .chunks_exact(8)
+/// The bytes of each whole record behind a header.
+fn eights(bytes: &[u8]) -> impl Iterator<Item = [u8; 8]> + '_ {
+    let eight = |record: &[u8]| record.try_into().expect("a record has eight bytes");
+    bytes[8..].chunks_exact(8).map(eight)
+}
+
+/// What these records hold, allowed or not.
+pub fn records(bytes: &[u8]) -> impl Iterator<Item = RecordFields> + '_ {
+    eights(bytes).map(RecordFields::take)
+}
+
+/// The records, if all keep their rules.
+fn kept(bytes: &[u8], nodes: usize) -> Result<Vec<Record>, Refusal> {
+    eights(bytes)
         .enumerate()
-        .map(|(node, record)| {
-            let record = record.try_into().expect("a record has eight bytes");
-            Record::read(record, nodes).ok_or(Refusal::at(9, node))
-        })
+        .map(|(node, record)| Record::read(record, nodes).ok_or(Refusal::at(9, node)))
         .collect()
 }
 

@@ -10,8 +10,14 @@ pub struct Geometry {
 }
 
 impl Geometry {
-    pub fn allowed(&self) -> bool {
-        (2..=8).contains(&self.line) && self.sets <= 8 && (1..=WAYS).contains(&usize::from(self.ways))
+    /// The shape that these numbers say, if it is allowed (rule 1.2).
+    pub fn of(line: u64, sets: u64, ways: u64) -> Option<Geometry> {
+        let allowed = (2..=8).contains(&line) && sets <= 8 && (1..=WAYS as u64).contains(&ways);
+        allowed.then_some(Geometry {
+            line: line as u32,
+            sets: sets as u32,
+            ways: ways as u8,
+        })
     }
 
     pub fn block_of(self, address: u32) -> u32 {

@@ -4,6 +4,8 @@
 
 pub mod ages;
 pub mod analysis;
+pub mod bits;
+pub mod blocks;
 pub mod cache;
 pub mod chart;
 pub mod checker;
@@ -14,6 +16,7 @@ pub mod header;
 pub mod lending;
 pub mod lent;
 pub mod limits;
+pub mod node;
 pub mod passes;
 pub mod record;
 pub mod refusal;
@@ -21,3 +24,4 @@ pub mod report;
 pub mod state;
 pub mod table;
 pub mod totals;
+pub mod writer;

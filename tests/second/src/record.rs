@@ -1,6 +1,63 @@
 //! One node's 64 bits and their rules.
 
+use crate::bits::Bits;
 use crate::fields::Fields;
+
+/// The numbers of a record, allowed or not, and also such as its fields cannot hold.
+#[derive(Clone, Copy, Debug, PartialEq, Eq)]
+pub struct RecordFields {
+    pub kind: u64,
+    pub address: u64,
+    /// How many arrows lead out.
+    pub outs: u64,
+    pub first: u64,
+    pub second: u64,
+    /// The size code.
+    pub size: u64,
+}
+
+impl RecordFields {
+    /// Those that are told, or given, in the order of rules 15.1 and 15.3.
+    pub fn of([kind, address, size, outs, first, second]: [u64; 6]) -> RecordFields {
+        RecordFields {
+            kind,
+            address,
+            outs,
+            first,
+            second,
+            size,
+        }
+    }
+
+    /// In the order of these rules.
+    pub fn numbers(&self) -> [u64; 6] {
+        [self.kind, self.address, self.size, self.outs, self.first, self.second]
+    }
+
+    /// Takes them from eight bytes, in the order of rule 2.1.
+    pub fn take(bytes: [u8; 8]) -> RecordFields {
+        let mut fields = Fields::of(bytes);
+        let mut take = |width| fields.take(width).into();
+        RecordFields {
+            kind: take(2),
+            address: take(32),
+            outs: take(2),
+            first: take(12),
+            second: take(12),
+            size: take(4),
+        }
+    }
+
+    /// Puts them in that order. Each has to fit its field.
+    pub fn put(&self, bits: &mut Bits) {
+        bits.put(2, self.kind);
+        bits.put(32, self.address);
+        bits.put(2, self.outs);
+        bits.put(12, self.first);
+        bits.put(12, self.second);
+        bits.put(4, self.size);
+    }
+}
 
 /// A record that keeps its rules.
 #[derive(Clone, Copy, Debug, PartialEq, Eq)]
@@ -19,10 +76,13 @@ pub struct Reference {
 
 impl Reference {
     /// As many bytes as a size code says; nothing if there is no such code, or no address for the last byte (rules 2.10 and 2.12).
-    fn of(first: u32, size: u32) -> Option<Reference> {
-        let bytes = *[1, 2, 4].get(size as usize)?;
-        first.checked_add(bytes - 1)?;
-        Some(Reference { first, bytes })
+    fn of(first: u64, size: u64) -> Option<Reference> {
+        let bytes = *[1, 2, 4].get(usize::try_from(size).ok()?)?;
+        let end = u128::from(first) + u128::from(bytes);
+        (end <= 1 << 32).then_some(Reference {
+            first: first as u32,
+            bytes,
+        })
     }
 
     /// The addresses of its bytes.
@@ -46,31 +106,33 @@ impl Arrows {
 }
 
 impl Record {
-    /// The record of eight bytes in a chart of so many nodes, or nothing if it breaks a rule.
-    pub fn read(bytes: [u8; 8], nodes: usize) -> Option<Record> {
-        let mut fields = Fields::of(bytes);
-        let kind = fields.take(2);
-        let address = fields.take(32);
-        let used = fields.take(2) as usize;
-        let targets = [fields.take(12) as usize, fields.take(12) as usize];
-        let size = fields.take(4);
-
-        let reference = match (kind, address, size) {
+    /// The record that these numbers say in a chart of so many nodes, or nothing if it breaks a rule.
+    pub fn of(fields: RecordFields, nodes: usize) -> Option<Record> {
+        let reference = match (fields.kind, fields.address, fields.size) {
             (0, 0, 0) => None,
-            (1 | 2, _, _) => Some(Reference::of(address, size)?),
+            (1 | 2, address, size) => Some(Reference::of(address, size)?),
             _ => return None,
         };
-        if used > 2 {
+        if fields.outs > 2 {
             return None;
         }
+        let (targets, used) = ([fields.first, fields.second], fields.outs as usize);
         let (leading, unused) = targets.split_at(used);
-        let inside = leading.iter().all(|&target| target < nodes);
+        let inside = leading.iter().all(|&target| target < nodes as u64);
         let clear = unused.iter().all(|&target| target == 0);
         // two arrows have two targets (rule 2.9)
         let twins = matches!(leading, [one, other] if one == other);
         (inside && clear && !twins).then_some(Record {
             reference,
-            arrows: Arrows { targets, used },
+            arrows: Arrows {
+                targets: targets.map(|target| target as usize),
+                used,
+            },
         })
+    }
+
+    /// The record of eight bytes.
+    pub fn read(bytes: [u8; 8], nodes: usize) -> Option<Record> {
+        Record::of(RecordFields::take(bytes), nodes)
     }
 }

@@ -10,3 +10,4 @@ pub mod plot;
 pub mod plot_growth;
 pub mod runs;
 pub mod timing;
+pub mod written;

@@ -2,6 +2,7 @@
 //!
 //!     speed table docs/speed.svg               the table, and the picture into that file
 //!     speed before                             the table of the analysis before a change and now
+//!     speed written                            the table of the writer beside the reader
 //!     speed growth PROGRAM docs/growth.svg     how long the program takes as charts grow, and the picture into that file
 //!     speed slowest 900                        the slowest chart of so many nodes, to standard output
 //!     speed ours backward 256 64 3             the proved analysis of that chart, three times
@@ -9,7 +10,7 @@
 
 use charts::slowest::slowest;
 use second::lending::Lending;
-use second::limits::PASSES;
+use second::limits::{BLOCKS, NODES, PASSES};
 use speed::before::{agree, BEFORE};
 use speed::growth::{growths, start, Growth};
 use speed::kinds::Kind;
@@ -17,6 +18,7 @@ use speed::measures::{ratio, Case, Measure};
 use speed::plot;
 use speed::plot_growth;
 use speed::runs::{Run, OURS, SECOND};
+use speed::written::{written, Written};
 use std::env;
 use std::fs;
 use std::io::{stdout, Write};
@@ -27,12 +29,13 @@ fn main() {
     match words[..] {
         ["table", picture] => table(picture),
         ["before"] => changed(),
+        ["written"] => beside_reader(),
         ["growth", program, picture] => growth(program, picture),
         ["slowest", nodes] => stdout()
             .write_all(&slowest(number(nodes)).bytes())
             .expect("standard output takes the chart"),
         [whose, kind, nodes, blocks, times] => alone(whose, kind, number(nodes), number(blocks), number(times)),
-        _ => panic!("'table PICTURE', 'before', 'growth PROGRAM PICTURE', 'slowest NODES', or: ours|second short|looping|backward|straddling NODES BLOCKS TIMES"),
+        _ => panic!("'table PICTURE', 'before', 'written', 'growth PROGRAM PICTURE', 'slowest NODES', or: ours|second short|looping|backward|straddling NODES BLOCKS TIMES"),
     }
 }
 
@@ -78,6 +81,23 @@ fn changed() {
             "| {name} | {nodes} | {blocks} | {then:.2} | {now:.2} | {:.3} | {:.3} |",
             measure.whole.ratio, measure.rest.ratio
         );
+    }
+}
+
+fn beside_reader() {
+    println!("| chart | nodes | blocks | writer, µs | reader, µs | writer / reader |");
+    println!("|---|---|---|---|---|---|");
+    for nodes in [NODES, NODES / 4, 16] {
+        for blocks in [BLOCKS, 8] {
+            for kind in [Kind::Short, Kind::Mixed, Kind::Straddling] {
+                let Written { best, ratio } = written(kind, nodes, blocks);
+                let [writer, reader] = best;
+                println!(
+                    "| {} | {nodes} | {blocks} | {writer:.2} | {reader:.2} | {ratio:.3} |",
+                    kind.name()
+                );
+            }
+        }
     }
 }
 

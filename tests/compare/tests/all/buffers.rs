@@ -20,7 +20,7 @@ fn around(used: usize) -> [usize; 5] {
 }
 
 /// Every choice of one length for each part.
-fn choices<const PARTS: usize>(used: [usize; PARTS]) -> impl Iterator<Item = [usize; PARTS]> {
+pub fn choices<const PARTS: usize>(used: [usize; PARTS]) -> impl Iterator<Item = [usize; PARTS]> {
     (0..5_usize.pow(PARTS as u32)).map(move |code| {
         let mut lengths = used;
         for (part, length) in lengths.iter_mut().enumerate() {

@@ -1,8 +1,11 @@
 //! That what compares lets no difference pass, of a buffer or of anything else.
 
 use charts::random::Random;
+use charts::Chart;
+use compare::given::Given;
 use compare::guarded::{byte, Guarded};
 use compare::same::{holds, same};
+use compare::written::Written;
 
 /// A buffer of so many bytes, the same each time but for their number.
 fn buffer(length: usize) -> Guarded<u8> {
@@ -49,4 +52,16 @@ fn another_answer_is_refused() {
     assert!(same("an answer", &[1, 2, 3], &[1, 2, 4]).is_err());
     assert!(holds(true, String::new).is_ok());
     assert!(holds(false, String::new).is_err());
+}
+
+#[test]
+fn bytes_written_from_other_numbers_are_refused() {
+    let sample = Given::of_chart(&Chart::sample());
+    let mut other = sample.clone();
+    other.lists[5][2] = 1;
+    let mut written = Written::default();
+    assert_eq!(written.add(&sample, &[1, 2]), Ok(true));
+    assert_eq!(written.add(&sample, &[1, 2]), Ok(false));
+    assert_eq!(written.add(&other, &[1, 3]), Ok(true));
+    assert!(written.add(&other, &[1, 2]).is_err());
 }

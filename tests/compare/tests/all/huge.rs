@@ -1,7 +1,10 @@
 //! Lengths that 32 bits are not enough for. Zeros that nobody touches take no memory.
 
+use charts::random::Random;
 use charts::Chart;
-use veilbuzz::{analyse, check, read, Buffers, Settled, Table, PASSES};
+use compare::given::Given;
+use compare::given_lent::LentGiven;
+use veilbuzz::{analyse, check, read, write, Buffers, Settled, Table, PASSES};
 
 const WIDE: usize = 1 << 32;
 
@@ -44,4 +47,13 @@ fn buffers_of_2_to_the_32_are_long_enough() {
         marks: &marks,
     };
     assert_eq!(check(&chart, table), Ok(true));
+}
+
+#[test]
+fn a_chart_is_written_over_the_start_of_2_to_the_32_bytes() {
+    let sample = Chart::sample();
+    let given = LentGiven::of(&mut Random::new(1), &Given::of_chart(&sample));
+    let mut chart = vec![0; WIDE];
+    assert_eq!(write(given.heading(), &given.node_lists(), &mut chart), Ok(32));
+    assert_eq!(chart[..32], sample.bytes());
 }

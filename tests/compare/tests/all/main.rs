@@ -2,6 +2,7 @@
 //! are drawn, and that no difference passes. All in one program, since that is linked but once.
 
 mod allowances;
+mod apart;
 mod buffers;
 mod counts;
 mod faults;
@@ -12,7 +13,11 @@ mod lengths;
 mod limits;
 mod overlapping;
 mod random;
+mod random_written;
 mod records;
 mod straddles;
 mod tables;
 mod totals;
+mod written;
+mod written_faults;
+mod written_lengths;

@@ -1,7 +1,7 @@
 //! What is only read may overlap: one buffer lent twice.
 
-use charts::Chart;
-use veilbuzz::{check, total, Bounds, Costs, Table, Totals};
+use charts::{Chart, Record};
+use veilbuzz::{check, total, write, Bounds, Costs, Heading, NodeLists, Table, Totals};
 
 /// From an empty cache of two ways a single read misses: both its ages are 2.
 const AGES: [u8; 1] = [2];
@@ -33,4 +33,31 @@ fn floors_and_ceilings_in_one_buffer() {
     };
     let answer = total(&chart(), table(), Costs { hit: 1, miss: 10 }, bounds);
     assert_eq!(answer, Ok(Totals { low: 70, high: 70 }));
+}
+
+#[test]
+fn six_lists_in_one_buffer() {
+    let heading = Heading {
+        line: 4,
+        sets: 0,
+        ways: 2,
+        start: 1,
+        nodes: 3,
+        entry: 0,
+    };
+    // each list is three of these: kinds 0 0 1, addresses 0 0 1, one arrow out of node 2, to node 1
+    let numbers = [0, 0, 1, 0, 0, 0];
+    let nodes = NodeLists {
+        kinds: &numbers[..3],
+        addresses: &numbers[..3],
+        sizes: &numbers[3..],
+        outs: &numbers[..3],
+        firsts: &numbers[..3],
+        seconds: &numbers[3..],
+    };
+    let mut chart = [7; 32];
+    assert_eq!(write(heading, &nodes, &mut chart), Ok(32));
+    let mut same = Chart::steps(3);
+    same.records[2] = Record::read(1).to(1);
+    assert_eq!(chart[..], same.bytes());
 }

@@ -1,5 +1,6 @@
 //! Random charts, whole and damaged, through everything.
 
+use crate::random_written;
 use charts::random_edges::{EDGES, NODE_EDGES};
 use compare::ask::{ANALYSE, CHECK, READ, TOTAL};
 use compare::crowds::{END, FULL, FULLEST, LAST_MAY, LAST_MUST, ONE_BIT};
@@ -44,6 +45,7 @@ fn the_archive_and_the_second_program_agree_on_random_charts() {
         expect_crowds(&tally);
         expect_edges(&tally);
         expect_lent(&tally);
+        random_written::expect(&tally);
     }
 }
 

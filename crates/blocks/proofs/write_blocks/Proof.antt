@@ -5,8 +5,8 @@ use native.Mathlib.Omega.{arith}
 use lib.ListN.{length, getD}
 use Rattle.lists.specs.Loops.{patch}
 use Rattle.lists.proofs.Loops.{patch-turn0}
-use Rattle.analysis.proofs.buffers.write_blocks.Statement.{statement}
-use Rattle.analysis.proofs.buffers.write_blocks.Tie as tie
+use Rattle.blocks.proofs.write_blocks.Statement.{statement}
+use Rattle.blocks.proofs.write_blocks.Tie as tie
 
 abbrev Inv-loop : tie.InvT-loop
 Inv-loop list count blocks₀ k₀ blocks k =

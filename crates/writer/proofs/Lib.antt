@@ -1,0 +1,11 @@
+pub mod Packed
+pub mod Fits
+pub mod Stored
+pub mod Refused
+pub mod Headed
+pub mod Readback
+pub mod Whole
+pub mod Kept
+pub mod Made
+pub mod Again
+pub mod Sounded

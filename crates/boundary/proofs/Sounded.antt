@@ -1,8 +1,12 @@
 -- Callers in other languages are told what the soundings want, by computing. Each has its name, so that one that fails is named.
+use Prim.Native.Nat.{ℕ, _≤_, _<_}
+use mathlib.Core.Bool.{true, false, _||_}
 use mathlib.Core.Path.{_≡_, refl}
-use mathlib.Core.Bool.{true, false}
 use mathlib.Core.List.{List, [], _∷_}
+use borrow.Author.Tests.{lt-ltb, le-ltb}
+use lib.ListN.{length}
 use Rattle.lists.specs.Lists.{written}
+use Rattle.lists.proofs.Choice.{false-or, true-or}
 use Rattle.chart.specs.declared.headers.Start.the-variants.{Unknown, Empty}
 use Rattle.chart.specs.declared.headers.Header.{Header}
 use Rattle.chart.specs.declared.readings.Verdict.the-variants.{Accepted, Refused}
@@ -10,7 +14,6 @@ use Rattle.refusals.specs.declared.Refusal.{Refusal}
 use Rattle.chart.specs.declared.records.RecordFields.{RecordFields}
 use Rattle.chart.specs.Header.{headerNumbers, startCode}
 use Rattle.chart.specs.Reading.{ReadSaid}
-use Rattle.analysis.specs.Analysis.{AnalysedSaid}
 use Rattle.checker.specs.Checker.{CheckedSaid}
 use Rattle.totals.specs.Totals.{TotalsSaid}
 use Rattle.fields.specs.declared.NodeRead.the-variants.{Node, NoNode}
@@ -18,8 +21,8 @@ use Rattle.fields.specs.declared.NodeRead.the-variants.{Refused as NodeRefused}
 use Rattle.fields.specs.Fields.{NodeSaid, BlocksSaid, fieldNumbers}
 use Rattle.writer.specs.Taken.{headingOf}
 use Rattle.writer.specs.Writer.{WroteSaid}
-use Rattle.boundary.specs.Told.{returned, told, readNumbers, analysedNumbers, checkedNumbers, totalsNumbers, wroteNumbers, nodeNumbers, blocksNumbers, headingGiven, headerTold, fieldsTold, readShort, analysedShort, checkedShort, totalsShort, wroteShort, blocksShort, nodeShort}
-use Prim.Native.Nat.{ℕ}
+use Rattle.boundary.specs.Told.{short, readNumbers, analysedNumbers, checkedNumbers, totalsNumbers, wroteNumbers, nodeNumbers, blocksNumbers, headingGiven, headerTold, fieldsTold}
+use Rattle.analysis.specs.Analysis.{AnalysedSaid}
 use Rattle.boundary.specs.Sounded.{sample, places, ToldSounded}
 
 empty-told : headerNumbers (sample Empty) ≡ 5 ∷ 3 ∷ 2 ∷ 1 ∷ 9 ∷ 7 ∷ []
@@ -31,8 +34,11 @@ unknown-told = refl
 header-told : headerTold (Accepted (sample Empty) 3) (places 8) ≡ 5 ∷ 3 ∷ 2 ∷ 1 ∷ 9 ∷ 7 ∷ 15 ∷ 16 ∷ []
 header-told = refl
 
-no-header-told : (refusal : Refusal) → headerTold (Refused refusal) (places 2) ≡ 9 ∷ 10 ∷ []
-no-header-told refusal = refl
+header-whole-told : (header : Header) (blocks : ℕ) (lent : List ℕ) → headerTold (Accepted header blocks) lent ≡ written (headerNumbers header) lent
+header-whole-told header blocks lent = refl
+
+no-header-told : (refusal : Refusal) (lent : List ℕ) → headerTold (Refused refusal) lent ≡ lent
+no-header-told refusal lent = refl
 
 read-told : (said : ReadSaid) → readNumbers said ≡ said .number ∷ said .place ∷ said .blocks ∷ []
 read-told said = refl
@@ -45,33 +51,6 @@ checked-told said = refl
 
 totals-told : (said : TotalsSaid) → totalsNumbers said ≡ said .number ∷ said .place ∷ said .low ∷ said .high ∷ []
 totals-told said = refl
-
-read-room : (header : Header) (said : ReadSaid) → readShort (headerNumbers header) (readNumbers said) ≡ false
-read-room header said = refl
-
-header-short : readShort (places 5) (places 3) ≡ true
-header-short = refl
-
-read-short : readShort (places 6) (places 2) ≡ true
-read-short = refl
-
-analysed-room : (said : AnalysedSaid) → analysedShort (analysedNumbers said) ≡ false
-analysed-room said = refl
-
-analysed-short : analysedShort (places 3) ≡ true
-analysed-short = refl
-
-checked-room : (said : CheckedSaid) → checkedShort (checkedNumbers said) ≡ false
-checked-room said = refl
-
-checked-short : checkedShort (places 2) ≡ true
-checked-short = refl
-
-totals-room : (said : TotalsSaid) → totalsShort (totalsNumbers said) ≡ false
-totals-room said = refl
-
-totals-short : totalsShort (places 3) ≡ true
-totals-short = refl
 
 wrote-told : (said : WroteSaid) → wroteNumbers said ≡ said .number ∷ said .place ∷ said .length ∷ []
 wrote-told said = refl
@@ -105,38 +84,21 @@ no-node-told lent = refl
 no-fields-told : (refusal : Refusal) (lent : List ℕ) → fieldsTold (NodeRefused refusal) lent ≡ lent
 no-fields-told refusal lent = refl
 
-wrote-room : (said : WroteSaid) → wroteShort (wroteNumbers said) ≡ false
-wrote-room said = refl
+-- A list with just as many places or more is not short, and one with fewer is.
+room : (answer : List ℕ) (places : ℕ) → places ≤ length answer → short answer places ≡ false
+room answer places h = le-ltb (length answer) places h
 
-wrote-short : wroteShort (places 2) ≡ true
-wrote-short = refl
+no-room : (answer : List ℕ) (places : ℕ) → length answer < places → short answer places ≡ true
+no-room answer places h = lt-ltb (length answer) places h
 
-blocks-room : (said : BlocksSaid) → blocksShort (blocksNumbers said) ≡ false
-blocks-room said = refl
+both-room : (one other : List ℕ) → 6 ≤ length one → 3 ≤ length other → (short one 6 || short other 3) ≡ false
+both-room one other h k = false-or (short one 6) (short other 3) (room one 6 h) (room other 3 k)
 
-blocks-short : blocksShort (places 2) ≡ true
-blocks-short = refl
+first-short : (one other : List ℕ) → length one < 6 → (short one 6 || short other 3) ≡ true
+first-short one other h = rw (no-room one 6 h)
 
-node-room : (fields : RecordFields) (said : NodeSaid) → nodeShort (fieldNumbers fields) (nodeNumbers said) ≡ false
-node-room fields said = refl
-
-fields-short : nodeShort (places 5) (places 3) ≡ true
-fields-short = refl
-
-node-short : nodeShort (places 6) (places 2) ≡ true
-node-short = refl
-
-short-returns : (number : ℕ) → returned true number ≡ 11
-short-returns number = refl
-
-short-leaves : (numbers : List ℕ) → told true numbers (places 2) ≡ 9 ∷ 10 ∷ []
-short-leaves numbers = refl
-
-room-returns : (number : ℕ) → returned false number ≡ number
-room-returns number = refl
-
-room-tells : told false (1 ∷ 2 ∷ 3 ∷ []) (places 5) ≡ 1 ∷ 2 ∷ 3 ∷ 12 ∷ 13 ∷ []
-room-tells = refl
+second-short : (one other : List ℕ) → length other < 3 → (short one 6 || short other 3) ≡ true
+second-short one other h = true-or (short one 6) (short other 3) (λ _. no-room other 3 h)
 
 pub told-sounded : ToldSounded
 told-sounded =
@@ -144,20 +106,12 @@ told-sounded =
       empty-told = empty-told;
       unknown-told = unknown-told;
       header-told = header-told;
+      header-whole-told = header-whole-told;
       no-header-told = no-header-told;
       read-told = read-told;
       analysed-told = analysed-told;
       checked-told = checked-told;
       totals-told = totals-told;
-      read-room = read-room;
-      header-short = header-short;
-      read-short = read-short;
-      analysed-room = analysed-room;
-      analysed-short = analysed-short;
-      checked-room = checked-room;
-      checked-short = checked-short;
-      totals-room = totals-room;
-      totals-short = totals-short;
       wrote-told = wrote-told;
       node-told = node-told;
       blocks-told = blocks-told;
@@ -168,15 +122,26 @@ told-sounded =
       node-fields-told = node-fields-told;
       no-node-told = no-node-told;
       no-fields-told = no-fields-told;
-      wrote-room = wrote-room;
-      wrote-short = wrote-short;
-      blocks-room = blocks-room;
-      blocks-short = blocks-short;
-      node-room = node-room;
-      fields-short = fields-short;
-      node-short = node-short;
-      short-returns = short-returns;
-      short-leaves = short-leaves;
-      room-returns = room-returns;
-      room-tells = room-tells;
+      read-room = both-room;
+      header-short = first-short;
+      read-short = second-short;
+      analysed-room = λ answer h. room answer 4 h;
+      analysed-short = λ answer h. no-room answer 4 h;
+      checked-room = λ answer h. room answer 3 h;
+      checked-short = λ answer h. no-room answer 3 h;
+      totals-room = λ answer h. room answer 4 h;
+      totals-short = λ answer h. no-room answer 4 h;
+      wrote-room = λ answer h. room answer 3 h;
+      wrote-short = λ answer h. no-room answer 3 h;
+      blocks-room = λ answer h. room answer 3 h;
+      blocks-short = λ answer h. no-room answer 3 h;
+      node-room = both-room;
+      fields-short = first-short;
+      node-short = second-short;
+      short-returns = λ number. refl;
+      short-leaves = λ numbers lent. refl;
+      room-returns = λ number. refl;
+      room-tells = λ numbers lent. refl;
+      lists-left = λ before after. (refl, refl);
+      buffers-left = λ before after. (refl, refl);
     }

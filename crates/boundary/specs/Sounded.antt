@@ -1,10 +1,11 @@
 -- Soundings of what callers in other languages are told: each answer's numbers in their order; a header whose numbers are all different, so that
 -- no two can change places; lists with and without room for them, where one place fewer than an answer has is too few, and just as many are
--- enough. Nothing here is a rule of the tool: it is what rule 12.9 comes to.
-use Prim.Native.Nat.{ℕ, _+_}
+-- enough; and what is left of all that is lent, whatever it held. Nothing here is a rule of the tool: it is what rule 12.9 comes to.
+use Prim.Native.Nat.{ℕ, _+_, _≤_, _<_}
 use mathlib.Core.Bool.{true, false}
 use mathlib.Core.Path.{_≡_}
 use mathlib.Core.List.{List, [], _∷_}
+use lib.ListN.{length}
 use Rattle.lists.specs.Lists.{listOf, written}
 use Rattle.chart.specs.declared.headers.Start.{Start}
 use Rattle.chart.specs.declared.headers.Start.the-variants.{Unknown, Empty}
@@ -14,7 +15,7 @@ use Rattle.refusals.specs.declared.Refusal.{Refusal}
 use Rattle.chart.specs.declared.records.RecordFields.{RecordFields}
 use Rattle.chart.specs.Header.{headerNumbers, startCode}
 use Rattle.chart.specs.Reading.{ReadSaid}
-use Rattle.analysis.specs.Analysis.{AnalysedSaid}
+use Rattle.analysis.specs.Analysis.{Buffers, AnalysedSaid}
 use Rattle.checker.specs.Checker.{CheckedSaid}
 use Rattle.totals.specs.Totals.{TotalsSaid}
 use Rattle.fields.specs.declared.NodeRead.the-variants.{Node, NoNode}
@@ -22,7 +23,7 @@ use Rattle.fields.specs.declared.NodeRead.the-variants.{Refused as NodeRefused}
 use Rattle.fields.specs.Fields.{NodeSaid, BlocksSaid, fieldNumbers}
 use Rattle.writer.specs.Taken.{headingOf}
 use Rattle.writer.specs.Writer.{WroteSaid}
-use Rattle.boundary.specs.Told.{returned, told, readNumbers, analysedNumbers, checkedNumbers, totalsNumbers, wroteNumbers, nodeNumbers, blocksNumbers, headingGiven, headerTold, fieldsTold, readShort, analysedShort, checkedShort, totalsShort, wroteShort, blocksShort, nodeShort}
+use Rattle.boundary.specs.Told.{returned, left, told, readNumbers, analysedNumbers, checkedNumbers, totalsNumbers, wroteNumbers, nodeNumbers, blocksNumbers, headingGiven, headerTold, fieldsTold, readShort, analysedShort, checkedShort, totalsShort, wroteShort, blocksShort, nodeShort}
 
 -- Lines of 2^5 bytes, 2^3 sets, 2 ways, nine nodes, entry 7.
 abbrev pub sample : Start → Header
@@ -38,7 +39,8 @@ pub record ToldSounded : Type 0 where
   pub unknown-told : headerNumbers (sample Unknown) ≡ 5 ∷ 3 ∷ 2 ∷ 0 ∷ 9 ∷ 7 ∷ []
   -- a header goes over the start of its list, which keeps its tail; after a refusal the list stays as it is
   pub header-told : headerTold (Accepted (sample Empty) 3) (places 8) ≡ 5 ∷ 3 ∷ 2 ∷ 1 ∷ 9 ∷ 7 ∷ 15 ∷ 16 ∷ []
-  pub no-header-told : (refusal : Refusal) → headerTold (Refused refusal) (places 2) ≡ 9 ∷ 10 ∷ []
+  pub header-whole-told : (header : Header) (blocks : ℕ) (lent : List ℕ) → headerTold (Accepted header blocks) lent ≡ written (headerNumbers header) lent
+  pub no-header-told : (refusal : Refusal) (lent : List ℕ) → headerTold (Refused refusal) lent ≡ lent
   pub read-told : (said : ReadSaid) → readNumbers said ≡ said .number ∷ said .place ∷ said .blocks ∷ []
   pub analysed-told : (said : AnalysedSaid) → analysedNumbers said ≡ said .number ∷ said .place ∷ said .passes ∷ said .blocks ∷ []
   pub checked-told : (said : CheckedSaid) → checkedNumbers said ≡ said .number ∷ said .place ∷ said .yes ∷ []
@@ -57,25 +59,28 @@ pub record ToldSounded : Type 0 where
   pub node-fields-told : (fields : RecordFields) (lent : List ℕ) → fieldsTold (Node fields) lent ≡ written (fieldNumbers fields) lent
   pub no-node-told : (lent : List ℕ) → fieldsTold NoNode lent ≡ lent
   pub no-fields-told : (refusal : Refusal) (lent : List ℕ) → fieldsTold (NodeRefused refusal) lent ≡ lent
-  pub read-room : (header : Header) (said : ReadSaid) → readShort (headerNumbers header) (readNumbers said) ≡ false
-  pub header-short : readShort (places 5) (places 3) ≡ true
-  pub read-short : readShort (places 6) (places 2) ≡ true
-  pub analysed-room : (said : AnalysedSaid) → analysedShort (analysedNumbers said) ≡ false
-  pub analysed-short : analysedShort (places 3) ≡ true
-  pub checked-room : (said : CheckedSaid) → checkedShort (checkedNumbers said) ≡ false
-  pub checked-short : checkedShort (places 2) ≡ true
-  pub totals-room : (said : TotalsSaid) → totalsShort (totalsNumbers said) ≡ false
-  pub totals-short : totalsShort (places 3) ≡ true
-  pub wrote-room : (said : WroteSaid) → wroteShort (wroteNumbers said) ≡ false
-  pub wrote-short : wroteShort (places 2) ≡ true
-  pub blocks-room : (said : BlocksSaid) → blocksShort (blocksNumbers said) ≡ false
-  pub blocks-short : blocksShort (places 2) ≡ true
-  pub node-room : (fields : RecordFields) (said : NodeSaid) → nodeShort (fieldNumbers fields) (nodeNumbers said) ≡ false
-  pub fields-short : nodeShort (places 5) (places 3) ≡ true
-  pub node-short : nodeShort (places 6) (places 2) ≡ true
-  -- without room 11 is returned, whatever the answer would be, and a list is left as it was; with room the answer's number, and the list
-  -- keeps its tail
+  -- a function's lists are too short for its answer exactly where one of them has fewer places than it needs
+  pub read-room : (header answer : List ℕ) → 6 ≤ length header → 3 ≤ length answer → readShort header answer ≡ false
+  pub header-short : (header answer : List ℕ) → length header < 6 → readShort header answer ≡ true
+  pub read-short : (header answer : List ℕ) → length answer < 3 → readShort header answer ≡ true
+  pub analysed-room : (answer : List ℕ) → 4 ≤ length answer → analysedShort answer ≡ false
+  pub analysed-short : (answer : List ℕ) → length answer < 4 → analysedShort answer ≡ true
+  pub checked-room : (answer : List ℕ) → 3 ≤ length answer → checkedShort answer ≡ false
+  pub checked-short : (answer : List ℕ) → length answer < 3 → checkedShort answer ≡ true
+  pub totals-room : (answer : List ℕ) → 4 ≤ length answer → totalsShort answer ≡ false
+  pub totals-short : (answer : List ℕ) → length answer < 4 → totalsShort answer ≡ true
+  pub wrote-room : (answer : List ℕ) → 3 ≤ length answer → wroteShort answer ≡ false
+  pub wrote-short : (answer : List ℕ) → length answer < 3 → wroteShort answer ≡ true
+  pub blocks-room : (answer : List ℕ) → 3 ≤ length answer → blocksShort answer ≡ false
+  pub blocks-short : (answer : List ℕ) → length answer < 3 → blocksShort answer ≡ true
+  pub node-room : (fields answer : List ℕ) → 6 ≤ length fields → 3 ≤ length answer → nodeShort fields answer ≡ false
+  pub fields-short : (fields answer : List ℕ) → length fields < 6 → nodeShort fields answer ≡ true
+  pub node-short : (fields answer : List ℕ) → length answer < 3 → nodeShort fields answer ≡ true
+  -- without room 11 is returned, whatever the answer would be, and all is left as it was; with room the answer's number, a list keeps its tail, and
+  -- what else is lent is left as the work leaves it
   pub short-returns : (number : ℕ) → returned true number ≡ 11
-  pub short-leaves : (numbers : List ℕ) → told true numbers (places 2) ≡ 9 ∷ 10 ∷ []
+  pub short-leaves : (numbers lent : List ℕ) → told true numbers lent ≡ lent
   pub room-returns : (number : ℕ) → returned false number ≡ number
-  pub room-tells : told false (1 ∷ 2 ∷ 3 ∷ []) (places 5) ≡ 1 ∷ 2 ∷ 3 ∷ 12 ∷ 13 ∷ []
+  pub room-tells : (numbers lent : List ℕ) → told false numbers lent ≡ written numbers lent
+  pub lists-left : (before after : List ℕ) → (left true before after ≡ before) × (left false before after ≡ after)
+  pub buffers-left : (before after : Buffers) → (left true before after ≡ before) × (left false before after ≡ after)

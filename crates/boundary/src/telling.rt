@@ -5,7 +5,13 @@ ghost use lib.ListN.{length};
 ghost use Rattle.refusals.specs.declared.Refusal.the-variants.{ShortBuffer};
 ghost use Rattle.refusals.specs.Refusals.{numberOf};
 ghost use Rattle.lists.specs.Lists.{written};
+ghost use Rattle.boundary.specs.Sounded.{ToldSounded};
 use refusals::Refusal;
+
+// What is told is what the soundings want: this is not built without the proof of that.
+fn sounded()
+    ensures { λ _. ⌜ ToldSounded ⌝ }
+{}
 
 // What is returned where a list is too short for what is told in it: 11.
 pub(crate) fn no_room() -> u64

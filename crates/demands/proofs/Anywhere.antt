@@ -58,5 +58,10 @@ anywhere =
       written-start = written-start;
       written-tail = written-tail;
       written-long = written-long;
+      block-count = λ chart. refl;
+      buffers-lent = λ blocks must may marks classes. refl;
+      buffers-left = λ blocks must may marks classes answer. refl;
+      table-lent = λ must may marks. refl;
+      figures-lent = λ hit miss floors ceilings. refl;
       age-place = λ count n column buffer h. getD-listOf count _ 0 column h;
     }

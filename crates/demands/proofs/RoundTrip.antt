@@ -17,6 +17,7 @@ use Rattle.writer.specs.declared.heading.Heading.{Heading}
 use Rattle.writer.specs.declared.writing.Wrote.the-variants.{Bytes}
 use Rattle.writer.specs.Given.{NodeLists, headerGiven, listed, AllLong}
 use Rattle.writer.specs.Writer.{WriteLeft, wrote}
+use Rattle.demands.specs.Writing.{ListsLong}
 use Rattle.demands.specs.RoundTrip.{ReadsBack, RoundTrip}
 use Rattle.demands.proofs.Back.{all-fit, reads-back, given-long}
 use Rattle.demands.proofs.Again.{lists-are, listed-taken, nodes-again, writes-again}
@@ -74,6 +75,9 @@ no-two-strings one other chart same small little read again header nodes =
     λ i. wrote (headingOf (header i)) (same-taken chart same header nodes i) one in
     sym (written-whole one one refl) ∙ ap (λ (left : WriteLeft). left .chart) (sym first ∙ alike ∙ second) ∙ written-whole other one long
 
+all-long : {count : ℕ} {lists : NodeLists} → ListsLong count lists → AllLong count lists
+all-long l = record { kinds = l .0; addresses = l .1 .0; sizes = l .1 .1 .0; outs = l .1 .1 .1 .0; firsts = l .1 .1 .1 .1 .0; seconds = l .1 .1 .1 .1 .1 }
+
 pub round-trip : RoundTrip
 round-trip =
     record {
@@ -82,10 +86,12 @@ round-trip =
       writes-again = λ bytes chart lent small read room. writes-again bytes chart read small lent room;
       nodes-again = λ bytes chart n read h. nodes-again bytes chart read n h;
       header-again = λ header. refl;
-      makes = λ heading lists count long fit. makes heading lists [] count long fit;
-      refuses-alike = λ heading lists lent count refusal long fit e. refuses-alike heading lists lent count long fit refusal e;
-      refused-alike = λ heading lists lent count refusal long fit e. refused-alike heading lists lent count long fit refusal e;
-      accepts-alike = λ heading lists lent count chart long fit e room. accepts-alike heading lists lent count long fit chart e room;
+      fits-none = tt;
+      fits-more = λ width value widths values below rest. (below, rest);
+      makes = λ heading lists count long fit. makes heading lists [] count (all-long long) fit;
+      refuses-alike = λ heading lists lent count refusal long fit e. refuses-alike heading lists lent count (all-long long) fit refusal e;
+      refused-alike = λ heading lists lent count refusal long fit e. refused-alike heading lists lent count (all-long long) fit refusal e;
+      accepts-alike = λ heading lists lent count chart long fit e room. accepts-alike heading lists lent count (all-long long) fit chart e room;
       no-two-charts = no-two-charts;
       no-two-strings = no-two-strings;
     }

@@ -5,18 +5,24 @@ use Prim.Native.Nat.{ℕ, suc, _+_, _*_, _/_, _%_, _≤_, _<_}
 use mathlib.Core.List.{List, [], _∷_, _++_}
 use mathlib.Core.Path.{_≡_}
 use lib.ListN.{length, getD, take}
+use denote.Ref.{now}
+use Rattle.lists.specs.Slices.{Slice}
 use Rattle.lists.specs.Lists.{listOf, joined, written}
 use Rattle.refusals.specs.declared.Refusal.the-variants.{BrokenRecord, TooManyBlocks, FloorAboveCeiling, FloorAtUnmarked}
 use Rattle.refusals.specs.Refusals.{placeOf}
 use Rattle.chart.specs.Geometry.{mostNodes}
+use Rattle.chart.specs.Chart.{Chart, blockCount}
 use Rattle.flow.specs.Flow.{Cell, blank, holds, cellAt}
 use Rattle.cache.specs.Ages.{Ages, touchAges}
 use Rattle.ages.specs.Plan.{ColumnTouch, Plan, columnsOf, touchesIn, planFlow}
 use Rattle.layout.specs.Rows.{rowAt}
 use Rattle.classes.specs.Class.{classOf, nodeClass, tableClasses}
 use Rattle.costs.specs.Costs.{visitCost, classesAt}
+use Rattle.tables.specs.Contract.{entryTable}
+use Rattle.analysis.specs.declared.Analysed.{Analysed}
 use Rattle.analysis.specs.declared.Analysed.the-variants.{Settled}
-use Rattle.analysis.specs.Analysis.{Left, analysed}
+use Rattle.analysis.specs.Analysis.{Left, entryBuffers, exitLeft, analysed}
+use Rattle.totals.specs.Totals.{entryFigures}
 use Rattle.report.specs.Text.{nodesWord, blocksWord, passesWord, decimalBy, decimal}
 use Rattle.report.specs.Report.{taken, classWord, nodeLine, zeroBuffers, reportOf, reportLeft, report}
 use Rattle.report.specs.Ending.{refusedBy, refuses}
@@ -80,5 +86,34 @@ pub record Anywhere : Type 0 where
   pub written-start : (new lent : List ℕ) (k : ℕ) → k < length new → getD (written new lent) k 0 ≡ getD new k 0
   pub written-tail : (new lent : List ℕ) (k : ℕ) → length new ≤ k → getD (written new lent) k 0 ≡ getD lent k 0
   pub written-long : (new lent : List ℕ) → length new ≤ length lent → length (written new lent) ≡ length lent
+  -- rule 3.4: B
+  pub block-count : (chart : Chart) → blockCount chart ≡ length (chart .blocks)
+  -- what is lent, as contracts name it, is each slice by its name
+  pub buffers-lent : (blocks must may marks classes : Slice)
+      → entryBuffers blocks must may marks classes
+      ≡ record {
+        blocks = now (blocks .entry);
+        must = now (must .entry);
+        may = now (may .entry);
+        marks = now (marks .entry);
+        classes = now (classes .entry);
+      }
+  pub buffers-left : (blocks must may marks classes : Slice) (answer : Analysed)
+      → exitLeft blocks must may marks classes answer
+      ≡ record {
+        answer = answer;
+        buffers = record {
+          blocks = now (blocks .exit);
+          must = now (must .exit);
+          may = now (may .exit);
+          marks = now (marks .exit);
+          classes = now (classes .exit);
+        };
+      }
+  pub table-lent : (must may marks : Slice)
+      → entryTable must may marks ≡ record { must = now (must .entry); may = now (may .entry); marks = now (marks .entry) }
+  pub figures-lent : (hit miss : ℕ) (floors ceilings : Slice)
+      → entryFigures hit miss floors ceilings
+      ≡ record { costs = record { hit = hit; miss = miss }; floors = now (floors .entry); ceilings = now (ceilings .entry) }
   -- rule 12.2: where a node's ages stand
   pub age-place : (count n column : ℕ) (buffer : List ℕ) → column < count → getD (rowAt count buffer n) column 0 ≡ getD buffer (n * count + column) 0

@@ -1,6 +1,6 @@
 -- What was written reads back, and what was read is written again, as theorems of the definitions that the functions promise. Rules 1.1 to 1.3,
 -- 2.1 to 2.4, 2.9 to 2.12, 3.4, 11.0 and 15.1 to 15.6. `round-trip` in proofs/RoundTrip.antt proves it.
-use Prim.Native.Nat.{ℕ, _+_, _*_, _≤_, _<_}
+use Prim.Native.Nat.{ℕ, _+_, _*_, _^_, _≤_, _<_}
 use mathlib.Core.List.{List, [], _∷_}
 use mathlib.Core.Logic.{_⊎_}
 use mathlib.Core.Path.{_≡_}
@@ -20,10 +20,10 @@ use Rattle.writer.specs.declared.heading.Heading.{Heading}
 use Rattle.writer.specs.declared.writing.Wrote.the-variants.{Bytes}
 use Rattle.writer.specs.declared.writing.Wrote.the-variants.{Refused as WriterRefused}
 use Rattle.writer.specs.Packing.{Fit, headerValues, recordValues, chartBytes}
-use Rattle.writer.specs.Given.{NodeLists, headerGiven, listed, AllLong}
+use Rattle.writer.specs.Given.{NodeLists, headerGiven, listed}
 use Rattle.writer.specs.Taken.{headingOf, listsOf}
 use Rattle.writer.specs.Writer.{wrote}
-use Rattle.demands.specs.Writing.{HeaderIs, RecordIs}
+use Rattle.demands.specs.Writing.{HeaderIs, RecordIs, ListsLong}
 
 -- The chart of what is given.
 abbrev pub chartGiven : Heading → NodeLists → Chart
@@ -31,8 +31,8 @@ chartGiven heading lists = chartOf (listed lists) (headerOf (headerGiven heading
 
 -- No value is too wide for its field.
 pub record AllFit (heading : Heading) (lists : NodeLists) (count : ℕ) : Type 0 where
-  pub header : Fit headerWidths (headerValues (headerGiven heading))
-  pub records : (n : ℕ) → n < count → Fit recordWidths (recordValues (listed lists n))
+  pub header : Fit headerWidths (headerValues (HeaderIs heading))
+  pub records : (n : ℕ) → n < count → Fit recordWidths (recordValues (RecordIs lists n))
 
 -- These bytes read back as what was given: byte by byte, by the reader, node by node, and the blocks.
 pub record ReadsBack (heading : Heading) (lists : NodeLists) (bytes : List ℕ) : Type 0 where
@@ -78,25 +78,28 @@ pub record RoundTrip : Type 0 where
   pub header-again : (header : Header)
       → headerNumbers header
       ≡ headingOf header .line ∷ headingOf header .sets ∷ headingOf header .ways ∷ headingOf header .start ∷ headingOf header .nodes ∷ headingOf header .entry ∷ []
+  -- values fit where each is below two to the power of its width
+  pub fits-none : Fit [] []
+  pub fits-more : (width value : ℕ) (widths values : List ℕ) → value < 2 ^ width → Fit widths values → Fit (width ∷ widths) (value ∷ values)
   -- what fits, in lists of one length, makes bytes that say it, whether or not it keeps the rules
   pub makes : (heading : Heading) (lists : NodeLists) (count : ℕ)
-      → AllLong count lists
+      → ListsLong count lists
       → AllFit heading lists count
       → Makes heading lists count (chartBytes (headerGiven heading) (listed lists) count)
   -- and there, whether that length is N or not, the writer refuses exactly where the reader refuses these bytes, and with the same number and
   -- place; but for a buffer that is too short. Of lists of several lengths no bytes are made: rule 15.4 has them (`WriterRefusals`)
   pub refuses-alike : (heading : Heading) (lists : NodeLists) (lent : List ℕ) (count : ℕ) (refusal : Refusal)
-      → AllLong count lists
+      → ListsLong count lists
       → AllFit heading lists count
       → readChart (chartBytes (headerGiven heading) (listed lists) count) ≡ refused refusal
       → wrote heading lists lent ≡ record { answer = WriterRefused refusal; chart = lent }
   pub refused-alike : (heading : Heading) (lists : NodeLists) (lent : List ℕ) (count : ℕ) (refusal : Refusal)
-      → AllLong count lists
+      → ListsLong count lists
       → AllFit heading lists count
       → wrote heading lists lent .answer ≡ WriterRefused refusal
       → (refusal ≡ ShortBuffer) ⊎ (readChart (chartBytes (headerGiven heading) (listed lists) count) ≡ refused refusal)
   pub accepts-alike : (heading : Heading) (lists : NodeLists) (lent : List ℕ) (count : ℕ) (chart : Chart)
-      → AllLong count lists
+      → ListsLong count lists
       → AllFit heading lists count
       → readChart (chartBytes (headerGiven heading) (listed lists) count) ≡ accepted chart
       → 8 + 8 * count ≤ length lent

@@ -103,7 +103,8 @@ pub record WriterRefusals (heading : Heading) (lists : NodeLists) (lent : List �
   -- the buffer neither grows nor shrinks, and keeps its tail
   pub same-length : length (wrote heading lists lent .chart) ≡ length lent
   pub tail-kept : (count k : ℕ) → wrote heading lists lent .answer ≡ Bytes count → count ≤ k → getD (wrote heading lists lent .chart) k 0 ≡ getD lent k 0
-  -- a value that is too wide for its field breaks the rule of that field; an entry that is too wide is above every N that is allowed
+  -- a number that is too wide for its field breaks the rule of that field: an entry or an arrow is then above every N that is allowed, and a
+  -- record with such a number breaks a rule of 11.9
   pub wide-shape : (2 ^ 4 ≤ heading .line) ⊎ ((2 ^ 4 ≤ heading .sets) ⊎ (2 ^ 4 ≤ heading .ways)) → GivenApplies heading lists lent CacheShape
   pub wide-start : 2 ^ 2 ≤ heading .start → GivenApplies heading lists lent StartCode
   pub wide-nodes : 2 ^ 12 ≤ heading .nodes → GivenApplies heading lists lent NodeCount

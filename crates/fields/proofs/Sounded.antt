@@ -18,4 +18,4 @@ unfolding blocksRead readChart wordAt blockOf shapeAllowed recordKeeps recordOf 
 blocks-listed = refl
 
 pub fields-sounded : FieldsSounded
-fields-sounded = record { nodes-read = nodes-read; blocks-listed = blocks-listed }
+fields-sounded = record { blocks-left = λ blocks answer. refl; nodes-read = nodes-read; blocks-listed = blocks-listed }

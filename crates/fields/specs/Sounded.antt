@@ -3,9 +3,13 @@
 -- examples of rules 15.1 and 15.2, and `FieldsSounded` holds the definitions to them.
 use Prim.Native.Nat.{ℕ}
 use mathlib.Core.List.{List, [], _∷_, _++_}
+use mathlib.Core.Path.{_≡_}
 use lib.ListN.{replicate, set}
+use denote.Ref.{now}
+use Rattle.lists.specs.Slices.{Slice}
 use Rattle.lists.specs.Soundings.{Sounding, _reads_, Hold}
-use Rattle.fields.specs.Fields.{readNodeSays, blocksRead, readBlocksSay}
+use Rattle.fields.specs.declared.BlocksRead.{BlocksRead}
+use Rattle.fields.specs.Fields.{readNodeSays, blocksRead, readBlocksSay, exitBlocks}
 
 -- Lines of 16 bytes, two nodes. Node 0 writes four bytes from 0x2E on, and leads to 1; node 1 reads 0x1E, and leads to 1 and to 0.
 abbrev pub twoNodes : List ℕ
@@ -59,5 +63,7 @@ blocksListed =
     ∷ []
 
 pub record FieldsSounded : Type 0 where
+  -- what is left is the list at exit, whatever is answered
+  pub blocks-left : (blocks : Slice) (answer : BlocksRead) → exitBlocks blocks answer ≡ record { answer = answer; blocks = now (blocks .exit) }
   pub nodes-read : Hold nodesRead
   pub blocks-listed : Hold blocksListed

@@ -34,6 +34,7 @@ crowds-hold = refl
 pub writer-sounded : WriterSounded
 writer-sounded =
     record {
+      chart-left = λ chart answer. refl;
       lists-lent = λ kinds addresses sizes outs firsts seconds. refl;
       loop-written = loop-written;
       fields-packed = fields-packed;

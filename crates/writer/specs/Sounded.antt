@@ -11,10 +11,11 @@ use Rattle.lists.specs.Slices.{Slice}
 use Rattle.lists.specs.Lists.{listOf}
 use Rattle.lists.specs.Soundings.{Sounding, _reads_, Hold}
 use Rattle.writer.specs.declared.heading.Heading.{Heading}
+use Rattle.writer.specs.declared.writing.Wrote.{Wrote}
 use Rattle.writer.specs.Packing.{chartBytes}
 use Rattle.writer.specs.Given.{NodeLists, headerGiven, listed}
 use Rattle.writer.specs.Writer.{wrote, writeSays}
-use Rattle.writer.specs.Contract.{sixLists, entryLists}
+use Rattle.writer.specs.Contract.{sixLists, entryLists, exitWriting}
 
 -- ---- the loop
 
@@ -62,10 +63,10 @@ loopWritten =
 
 -- ---- where each field goes
 
--- L 5, S 3, A 6, empty, N 255, entry 0x123; a record of kind 3, which there is not, of two bytes from 0xDEADBEEF
+-- L 5, S 3, A 6, start code 2, which there is not, N 255, entry 0x123; a record of kind 3, which there is not, of two bytes from 0xDEADBEEF
 -- on, with two arrows, to 0x123 and to 0x456.
 abbrev pub apartHeading : Heading
-apartHeading = record { line = 5; sets = 3; ways = 6; start = 1; nodes = 255; entry = 0x123 }
+apartHeading = record { line = 5; sets = 3; ways = 6; start = 2; nodes = 255; entry = 0x123 }
 
 abbrev pub apartLists : NodeLists
 apartLists =
@@ -81,7 +82,7 @@ apartLists =
 abbrev pub fieldsPacked : List Sounding
 fieldsPacked =
     (chartBytes (headerGiven apartHeading) (listed apartLists) 1 reads
-    (0x01 ∷ 0x53 ∷ 0x64 ∷ 0x00 ∷ 0x0F ∷ 0xF1 ∷ 0x23 ∷ 0x00 ∷ 0xF7 ∷ 0xAB ∷ 0x6F ∷ 0xBB ∷ 0xE1 ∷ 0x23 ∷ 0x45 ∷ 0x61 ∷ []))
+    (0x01 ∷ 0x53 ∷ 0x68 ∷ 0x00 ∷ 0x0F ∷ 0xF1 ∷ 0x23 ∷ 0x00 ∷ 0xF7 ∷ 0xAB ∷ 0x6F ∷ 0xBB ∷ 0xE1 ∷ 0x23 ∷ 0x45 ∷ 0x61 ∷ []))
     ∷ []
 
 -- ---- one number of the loop is another
@@ -188,7 +189,7 @@ nodesRefused =
 
 -- ---- which goes before which
 
--- All of it is wrong, from this row on: no room, node 2's size, a list, the entry, N, the start, the shape.
+-- No room, a size code of node 2 that there is not, these kinds and this start code.
 abbrev pub wrongFrom : ℕ → List ℕ → List ℕ
 wrongFrom start kinds =
     take 2
@@ -227,6 +228,8 @@ abbrev pub crowds : List Sounding
 crowds = (crowdOut 64 reads (11 ∷ 0 ∷ [])) ∷ (crowdOut 65 reads (10 ∷ 64 ∷ [])) ∷ []
 
 pub record WriterSounded : Type 0 where
+  -- what is left is the buffer at exit, whatever is answered
+  pub chart-left : (chart : Slice) (answer : Wrote) → exitWriting chart answer ≡ record { answer = answer; chart = now (chart .exit) }
   -- each list that is lent is the one that its name says
   pub lists-lent : (kinds addresses sizes outs firsts seconds : Slice)
       → entryLists kinds addresses sizes outs firsts seconds

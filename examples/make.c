@@ -48,7 +48,7 @@ int main(void) {
         return refused();
     length = (size_t)answer[VEILBUZZ_WRITE_BYTES];
     for (place = 0; place < length; place++)
-        printf("%02X%c", chart[place], place % 8 == 7 ? '\n' : ' ');
+        printf("%02X%s", chart[place], place % 8 == 7 ? "\n" : "");
 
     if (veilbuzz_analyse(chart, length, VEILBUZZ_ENOUGH_PASSES, blocks, VEILBUZZ_MOST_BLOCKS, must, sizeof must, may, sizeof may, marks,
                          sizeof marks, classes, sizeof classes, answer, VEILBUZZ_LONGEST_ANSWER) != 0)

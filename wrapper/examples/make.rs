@@ -36,8 +36,8 @@ fn main() -> Result<(), Refusal> {
     };
     let chart = chart_of(heading, &NODES)?;
     for row in chart.chunks(8) {
-        let digits: Vec<String> = row.iter().map(|byte| format!("{byte:02X}")).collect();
-        println!("{}", digits.join(" "));
+        let digits: String = row.iter().map(|byte| format!("{byte:02X}")).collect();
+        println!("{digits}");
     }
 
     let analysis = Analysis::of(&chart)?;

@@ -1,14 +1,15 @@
--- What a caller in another language is told: numbers at the start of a lent list. Rule 12.9, and rule 11.11 of the lists for the answer, which
--- goes before all other refusals; and rule 15.3, of the writer's six numbers. The checker's yes is told and not returned, and the reader's blocks are
--- not told: listing them is a function of its own. include/veilbuzz.h names the places in C.
+-- What a caller in another language is told: numbers at the start of a lent list. Rules 12.8 and 12.9, and rule 11.11 of the lists for the
+-- answer, which goes before all other refusals; and rule 15.3, of the writer's six numbers. The checker's yes is told and not returned, and the
+-- reader's blocks are not told: listing them is a function of its own. include/veilbuzz.h names the places in C.
 use Prim.Native.Nat.{ℕ}
 use mathlib.Core.Bool.{Bool, cond, _||_}
 use mathlib.Core.List.{List, [], _∷_}
 use lib.ListN.{length}
 use lib.Dec.{ltb}
 use Rattle.lists.specs.Lists.{written}
+use Rattle.refusals.specs.declared.Refusal.{Refusal}
 use Rattle.refusals.specs.declared.Refusal.the-variants.{ShortBuffer}
-use Rattle.refusals.specs.Refusals.{numberOf}
+use Rattle.refusals.specs.Refusals.{numberOf, placeOf}
 use Rattle.chart.specs.Header.{headerNumbers}
 use Rattle.chart.specs.declared.readings.Verdict.{Verdict}
 use Rattle.chart.specs.declared.readings.Verdict.the-variants.{Accepted, Refused}
@@ -38,6 +39,10 @@ left short before after = cond short before after
 -- Rule 12.9: what is left of a list that numbers are told in.
 abbrev pub told : Bool → List ℕ → List ℕ → List ℕ
 told short numbers lent = left short lent (written numbers lent)
+
+-- Rules 12.8 and 12.9: a refusal's numbers, where an answer has three.
+abbrev pub refusedNumbers : Refusal → List ℕ
+refusedNumbers refusal = numberOf refusal ∷ placeOf refusal ∷ 0 ∷ []
 
 -- Rule 12.9: the reader's answer, number and place before B.
 abbrev pub readNumbers : ReadSaid → List ℕ

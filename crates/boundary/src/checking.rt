@@ -5,6 +5,7 @@ ghost use Rattle.tables.specs.Contract.{entryTable};
 ghost use Rattle.checker.specs.Checker.{checkedSays, checkSays};
 ghost use Rattle.boundary.specs.Told.{checkedShort, returned, told, checkedNumbers};
 use crate::telling::no_room;
+use crate::telling::refused;
 use crate::telling::tell;
 use checker::Checked;
 
@@ -15,11 +16,7 @@ fn checked_numbers(answer: Checked) -> [u64; 3]
     match answer {
         Checked::Yes => [0, 0, 1],
         Checked::No => [0, 0, 0],
-        Checked::Refused(refusal) => {
-            let number = refusal.number();
-            let place = refusal.place() as u64;
-            [number, place, 0]
-        }
+        Checked::Refused(refusal) => refused(refusal),
     }
 }
 

@@ -6,6 +6,7 @@ ghost use lib.ListN.{length};
 ghost use Rattle.fields.specs.Fields.{nodeRead, nodeSays, readNodeSays, blocksRead, blocksSay, readBlocksSay};
 ghost use Rattle.boundary.specs.Told.{nodeShort, blocksShort, returned, left, told, nodeNumbers, fieldsTold, blocksNumbers};
 use crate::telling::no_room;
+use crate::telling::refused;
 use crate::telling::tell;
 use fields::BlocksRead;
 use fields::NodeRead;
@@ -17,11 +18,7 @@ fn node_numbers(answer: NodeRead) -> [u64; 3]
     match answer {
         NodeRead::Node(_) => [0, 0, 1],
         NodeRead::NoNode => [0, 0, 0],
-        NodeRead::Refused(refusal) => {
-            let number = refusal.number();
-            let place = refusal.place() as u64;
-            [number, place, 0]
-        }
+        NodeRead::Refused(refusal) => refused(refusal),
     }
 }
 
@@ -31,11 +28,7 @@ fn blocks_numbers(answer: BlocksRead) -> [u64; 3]
 {
     match answer {
         BlocksRead::Blocks(count) => [0, 0, count as u64],
-        BlocksRead::Refused(refusal) => {
-            let number = refusal.number();
-            let place = refusal.place() as u64;
-            [number, place, 0]
-        }
+        BlocksRead::Refused(refusal) => refused(refusal),
     }
 }
 

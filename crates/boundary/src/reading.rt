@@ -6,6 +6,7 @@ ghost use lib.ListN.{length};
 ghost use Rattle.chart.specs.Reading.{reading, verdictSays, readSays};
 ghost use Rattle.boundary.specs.Told.{returned, left, told, readNumbers, headerTold, readShort};
 use crate::telling::no_room;
+use crate::telling::refused;
 use crate::telling::tell;
 use chart::Verdict;
 
@@ -15,11 +16,7 @@ fn verdict_numbers(verdict: Verdict) -> [u64; 3]
 {
     match verdict {
         Verdict::Accepted(_, blocks) => [0, 0, blocks as u64],
-        Verdict::Refused(refusal) => {
-            let number = refusal.number();
-            let place = refusal.place() as u64;
-            [number, place, 0]
-        }
+        Verdict::Refused(refusal) => refused(refusal),
     }
 }
 

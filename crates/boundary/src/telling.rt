@@ -5,13 +5,8 @@ ghost use lib.ListN.{length};
 ghost use Rattle.refusals.specs.declared.Refusal.the-variants.{ShortBuffer};
 ghost use Rattle.refusals.specs.Refusals.{numberOf};
 ghost use Rattle.lists.specs.Lists.{written};
-ghost use Rattle.boundary.specs.Sounded.{ToldSounded};
+ghost use Rattle.boundary.specs.Told.{refusedNumbers};
 use refusals::Refusal;
-
-// What is told is what the soundings want: this is not built without the proof of that.
-fn sounded()
-    ensures { λ _. ⌜ ToldSounded ⌝ }
-{}
 
 // What is returned where a list is too short for what is told in it: 11.
 pub(crate) fn no_room() -> u64
@@ -19,6 +14,15 @@ pub(crate) fn no_room() -> u64
 {
     let refusal = Refusal::ShortBuffer;
     refusal.number()
+}
+
+// The three numbers of a refusal: its number, its place, and 0 for what there is not (rule 12.8).
+pub(crate) fn refused(refusal: Refusal) -> [u64; 3]
+    ensures { λ r. ⌜ r ≡ refusedNumbers refusal ⌝ }
+{
+    let number = refusal.number();
+    let place = refusal.place() as u64;
+    [number, place, 0]
 }
 
 // The numbers at the start of a lent list.

@@ -5,6 +5,7 @@ ghost use Rattle.writer.specs.Writer.{wrote, wroteSays, writeSays};
 ghost use Rattle.writer.specs.Contract.{entryLists};
 ghost use Rattle.boundary.specs.Told.{wroteShort, returned, left, told, wroteNumbers, headingGiven};
 use crate::telling::no_room;
+use crate::telling::refused;
 use crate::telling::tell;
 use writer::Heading;
 use writer::Wrote;
@@ -15,11 +16,7 @@ fn wrote_numbers(answer: Wrote) -> [u64; 3]
 {
     match answer {
         Wrote::Bytes(count) => [0, 0, count as u64],
-        Wrote::Refused(refusal) => {
-            let number = refusal.number();
-            let place = refusal.place() as u64;
-            [number, place, 0]
-        }
+        Wrote::Refused(refusal) => refused(refusal),
     }
 }
 

@@ -28,7 +28,8 @@ use Rattle.writer.specs.Given.{NodeLists}
 use Rattle.writer.specs.Writer.{writeCases, stored, wrote, writeSays}
 use Rattle.demands.specs.Ordered.{numbersOf}
 
--- Rule 15.3: the header's fields, and those of node n's record, from what is given.
+-- Rule 15.3: the header's fields, and those of node n's record, from what is given. Like `ListsLong` below, this stands here a second time on
+-- purpose: if it changed in the writer, definition and code alike, the two would differ.
 abbrev pub HeaderIs : Heading → HeaderFields
 HeaderIs heading =
     record {

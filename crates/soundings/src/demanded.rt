@@ -4,6 +4,7 @@ ghost use Rattle.demands.specs.Demand2.{Demand2};
 ghost use Rattle.demands.specs.Demand3.{Demand3};
 ghost use Rattle.demands.specs.RoundTrip.{RoundTrip};
 ghost use Rattle.demands.specs.Sounded.{Sounded};
+ghost use Rattle.boundary.specs.Sounded.{ToldSounded};
 
 // Any bytes and any buffer lengths get an answer or a numbered refusal.
 pub(crate) fn asked_anything()
@@ -28,4 +29,9 @@ pub(crate) fn comes_back()
 // The definitions give what the soundings want.
 pub(crate) fn sounded()
     ensures { λ _. ⌜ Sounded ⌝ }
+{}
+
+// What callers in other languages are told, and what is left to them, is what the soundings of that want.
+pub(crate) fn told()
+    ensures { λ _. ⌜ ToldSounded ⌝ }
 {}

@@ -8,6 +8,7 @@ use crate::demanded::comes_back;
 use crate::demanded::says_most;
 use crate::demanded::says_so;
 use crate::demanded::sounded;
+use crate::demanded::told;
 use crate::sounding::are_bytes;
 use crate::sounding::loop_checked;
 use crate::sounding::loop_totals;
@@ -95,6 +96,8 @@ fn print_demanded() {
     io::write_all(STDOUT_FILENO, b"the round trip is proved\n");
     sounded();
     io::write_all(STDOUT_FILENO, b"the soundings are proved\n");
+    told();
+    io::write_all(STDOUT_FILENO, b"what is told to C is proved\n");
 }
 
 // Writes what the checker and the totals answer, a node that writes, and what is proved.

@@ -13,6 +13,7 @@ use Rattle.writer.specs.declared.writing.Wrote.{Wrote}
 use Rattle.writer.specs.Given.{NodeLists}
 use Rattle.writer.specs.Writer.{WriteLeft}
 
+-- The lists of six fields, each by its name.
 abbrev pub sixLists : List ℕ → List ℕ → List ℕ → List ℕ → List ℕ → List ℕ → NodeLists
 sixLists kinds addresses sizes outs firsts seconds =
     record {

@@ -1,7 +1,8 @@
 /* Veilbuzz for C: does a memory reference always hit the cache, always miss, or can it not be told?
  *
  * Link with the archive that tests/archive makes:  cc -Iinclude mine.c "$(tests/archive)/libboundary.a"
- * examples/loop.c and examples/make.c are whole programs, and charts/README.md has the chart's bits.
+ * examples/loop.c and examples/make.c are whole programs; docs/HEX.md has the chart's bits, docs/REFUSALS.md each
+ * refusal at length.
  *
  * What the functions answer and leave is proved of their source, for any bytes and any lengths: each ends, and writes only what is said
  * here. That the compiled code and these declarations agree with that source is tried by tests (docs/ASSURANCE.md). The functions
@@ -149,7 +150,8 @@ enum {
  *    2   its edition is not 1                                   0            the first byte has to be 01
  *    3   L not 2 to 8, S not 0 to 8, or A not 1 to 8            0            look at the cache's shape
  *    4   its start code is neither 0 nor 1                      0            0 is unknown, 1 is empty
- *    5   N is 0 or above VEILBUZZ_MOST_NODES                    0            split the chart, or mend the count
+ *    5   N is 0 or above VEILBUZZ_MOST_NODES                    0            mend the count, or split the chart as
+ *                                                                            docs/REFUSALS.md tells
  *    6   its entry is not below N                               0            name a node that there is
  *    7   a spare bit of the header is set                       0            clear it
  *    8   it is not 8 + 8 N bytes long; a list of fields that    0            cut it, or add the missing records; one number for
@@ -157,7 +159,7 @@ enum {
  *    9   a record, or what is to be one, is not as rules 2.1,   that node    mend that node's record; if both its arrows lead to
  *        2.3, 2.4, 2.9, 2.11 and 2.12 have it                                one node: one arrow, or the other target; if its last
  *                                                                            byte is past the last address: a smaller size
- *   10   it has more blocks than VEILBUZZ_MOST_BLOCKS: the      that node    split the chart
+ *   10   it has more blocks than VEILBUZZ_MOST_BLOCKS: the      that node    split the chart as docs/REFUSALS.md tells
  *        node, in node order, that brings the first too many
  *   11   a buffer has fewer places than are used, and is        0            lend N, 2 * N, B, N * B or 8 + 8 * N elements, as said
  *        neither floors, ceilings nor one of the six lists                   below, and the lengths named above for `answer`,

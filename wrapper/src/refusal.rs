@@ -25,7 +25,10 @@ const WORDS: [[&str; 2]; 17] = [
         "look at the cache's shape",
     ],
     ["the start code is neither 0 nor 1", "0 is unknown, 1 is empty"],
-    ["N is not 1 to NODES", "split the chart, or mend the count"],
+    [
+        "N is not 1 to NODES",
+        "mend the count, or split the chart as docs/REFUSALS.md tells",
+    ],
     ["the entry is not below N", "name a node that there is"],
     ["a spare bit of the header is set", "clear it"],
     [
@@ -37,7 +40,10 @@ const WORDS: [[&str; 2]; 17] = [
         "mend that node's record; if both its arrows lead to one node: one arrow, or the other target; \
          if its last byte is past the last address: a smaller size",
     ],
-    ["the chart has over BLOCKS blocks", "split the chart"],
+    [
+        "the chart has over BLOCKS blocks",
+        "split the chart as docs/REFUSALS.md tells",
+    ],
     [
         "a lent buffer is shorter than used",
         "lend N, 2 * N, B, N * B or 8 + 8 * N elements, as the function says",

@@ -1,7 +1,7 @@
 //! Asking for a report: the script ./report, in a made-up repository of its own.
 
 use reports::folder;
-use reports::made_up::{output, Repository};
+use reports::made_up::{first_line, output, said, start, Repository, WAITING};
 use reports::program::{file, CUT};
 use std::fs::{self, File, Permissions};
 use std::os::unix::fs::PermissionsExt;
@@ -15,7 +15,8 @@ const NONE: i32 = 3;
 const PROVED: &str = "proving the program, 3 crates\nproved report (2 of 3)\nproved veilbuzz (3 of 3)\n";
 
 fn made_up(name: &str) -> Repository {
-    Repository::new(&Path::new(env!("CARGO_TARGET_TMPDIR")).join("asking").join(name))
+    let folder = Path::new(env!("CARGO_TARGET_TMPDIR")).join("asking").join(name);
+    Repository::new(&folder, "report").with_program()
 }
 
 /// One where the program is built.
@@ -31,10 +32,6 @@ fn chart(name: &str) -> String {
 
 fn open_chart(name: &str) -> File {
     File::open(chart(name)).expect("the chart is there")
-}
-
-fn said(output: &Output) -> &str {
-    std::str::from_utf8(&output.stderr).expect("words in UTF-8")
 }
 
 /// Holds the script to a chart's stored report and to a status, and to silence beside.
@@ -57,7 +54,7 @@ fn refuses(output: &Output, words: &str) {
 fn help_needs_no_program_and_tells_each_status() {
     let made = made_up("help");
     for word in ["--help", "-h"] {
-        let help = output(made.command_without_rt().arg(word));
+        let help = output(made.command_without(&["rt"]).arg(word));
         assert_eq!((help.status.code(), said(&help)), (Some(0), ""));
         let text = String::from_utf8(help.stdout).expect("words in UTF-8");
         for told in [
@@ -80,23 +77,23 @@ fn the_first_time_it_says_how_far_it_is_and_then_nothing_more() {
     assert_eq!((first.status.code(), said(&first)), (Some(0), PROVED));
     assert_eq!(String::from_utf8_lossy(&first.stdout), folder::report("loop"));
     reports(&made.ask(&chart("loop")), "loop", 0);
-    assert_eq!(made.checks(), 1);
+    assert_eq!(made.calls("rt"), 1);
 }
 
 #[test]
 fn a_built_program_needs_no_rt() {
     let made = made_up("without-rt");
     refuses(
-        &output(made.command_without_rt().arg(chart("loop"))),
+        &output(made.command_without(&["rt"]).arg(chart("loop"))),
         "there is no rt on PATH",
     );
     made.ask(&chart("loop"));
-    reports(&output(made.command_without_rt().arg(chart("loop"))), "loop", 0);
+    reports(&output(made.command_without(&["rt"]).arg(chart("loop"))), "loop", 0);
     let refused = "refused-cut-short";
-    reports(&output(made.command_without_rt().arg(chart(refused))), refused, 1);
+    reports(&output(made.command_without(&["rt"]).arg(chart(refused))), refused, 1);
     made.write("crates/lists/src/lib.rt", "changed");
     refuses(
-        &output(made.command_without_rt().arg(chart("loop"))),
+        &output(made.command_without(&["rt"]).arg(chart("loop"))),
         "there is no rt on PATH",
     );
 }
@@ -137,7 +134,7 @@ fn what_is_no_chart_gets_a_reason() {
         &output(made.command().args([chart("loop"), chart("loop")])),
         "name one chart",
     );
-    assert_eq!(made.checks(), 0);
+    assert_eq!(made.calls("rt"), 0);
 }
 
 #[test]
@@ -180,7 +177,7 @@ fn what_changed_is_proved_anew_and_nothing_else() {
             folder::report("loop"),
             "{what}"
         );
-        assert_eq!(made.checks(), checks, "{what}");
+        assert_eq!(made.calls("rt"), checks, "{what}");
     };
     made.write("crates/lists/src/lib.rt", "changed");
     asked("a source changed", true);
@@ -216,10 +213,24 @@ fn what_is_not_proved_is_not_run() {
         refuses(&made.ask(&chart("loop")), "rt: report NOT PROVED (exit 1, 3 s)");
     }
     refuses(
-        &output(made.command_without_rt().arg(chart("loop"))),
+        &output(made.command_without(&["rt"]).arg(chart("loop"))),
         "there is no rt on PATH",
     );
     made.remove("broken");
     assert_eq!(said(&made.ask(&chart("loop"))), PROVED);
     reports(&made.ask(&chart("loop")), "loop", 0);
+}
+
+#[test]
+fn of_two_at_once_the_second_waits_and_proves_nothing() {
+    let made = made_up("two");
+    let first = made.held(&chart("loop"));
+    let mut second = start(made.command().arg(chart("loop")));
+    assert_eq!(first_line(&mut second), WAITING);
+    made.remove("held");
+    let first = first.wait_with_output().expect("the script ends");
+    assert_eq!((first.status.code(), said(&first)), (Some(0), PROVED));
+    let second = second.wait_with_output().expect("the script ends");
+    reports(&second, "loop", 0);
+    assert_eq!(made.calls("rt"), 1);
 }

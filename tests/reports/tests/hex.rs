@@ -1,4 +1,4 @@
-//! The sources of the charts: NAME.hex has a line of digits for the header and for each node, and behind each what it says in words.
+//! The charts in digits: NAME.hex has a line of them for the header and for each node, and behind each what it says in words.
 
 use charts::{Header, Record};
 use reports::folder::{chart, names, text};

@@ -1,6 +1,6 @@
 //! The most nodes of rule 1.4, and what follows from them, stand once each in the definitions, the code, the second program (from which all tests
-//! take them), the wrapper, the C header and the table of that rule; README.md has the most nodes too. No other text spells them, but for those
-//! that are left out below: it would go stale unseen when the limit moves.
+//! take them), the wrapper, the C header and the table of that rule; README.md and REFUSALS.md have the most nodes too. No other text spells
+//! them, but for those that are left out below: it would go stale unseen when the limit moves.
 
 use reports::numbers::{numbers, spelled};
 use reports::pages::cells;
@@ -11,6 +11,7 @@ use second::report::INPUT;
 use std::fs;
 
 const RULES: &str = "docs/RULES.md";
+const REFUSALS: &str = "docs/REFUSALS.md";
 
 /// The limits by the names that rule 1.4 has for them, in its order.
 const NAMED: [(&str, usize); 9] = [
@@ -55,10 +56,11 @@ const FORMER_WORDS: [&str; 7] = [
 ];
 
 /// Where they stand, and which of them.
-const PLACES: [(&str, &[usize]); 7] = [
+const PLACES: [(&str, &[usize]); 8] = [
     ("README.md", &[NODES]),
     ("crates/chart/specs/Geometry.antt", &[NODES]),
     ("crates/chart/src/shape.rt", &[NODES]),
+    (REFUSALS, &[NODES]),
     (RULES, &[NODES, AGES, CLASSES, LONGEST, INPUT, PASSES]),
     ("include/veilbuzz.h", &[NODES]),
     ("tests/second/src/limits.rs", &[NODES]),
@@ -142,9 +144,24 @@ fn the_page_of_rules_has_each_limit_by_its_name() {
 }
 
 #[test]
-fn the_readme_has_the_most_nodes_where_it_tells_of_refusal_5() {
-    let row = format!("| 5 | N is not 1 to {} |", spelled(NODES));
-    assert!(text("README.md").contains(&row), "README.md has no row '{row}'");
+fn the_page_of_refusals_has_the_most_nodes_where_it_tells_of_5_and_the_most_blocks_at_10() {
+    let page = text(REFUSALS);
+    let given = format!("Given if the number of nodes is not 1 to {}.", spelled(NODES));
+    assert!(page.contains(&given), "{REFUSALS} has no '{given}'");
+    let heading = format!("## 10. More than {BLOCKS} blocks");
+    assert!(page.contains(&heading), "{REFUSALS} has no '{heading}'");
+}
+
+#[test]
+fn the_readme_has_the_limits_in_its_table() {
+    let page = text("README.md");
+    for row in [
+        format!("| nodes | 1 to {}, ", spelled(NODES)),
+        format!("| blocks | lines of memory that a chart touches: at most {BLOCKS} |"),
+        format!("| ways in a set | 1 to {WAYS} |"),
+    ] {
+        assert!(page.contains(&row), "README.md has no row '{row}'");
+    }
 }
 
 #[test]

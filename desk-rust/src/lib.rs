@@ -1,0 +1,59 @@
+//! The desk: charts in words, answers in words.
+//!
+//! Ordinary Rust over the wrapper, and so over the proved functions: it never works out an age, a class, a total or a byte of a chart
+//! itself. A text becomes a chart by the proved writer, and is read back before it is used.
+//!
+//! From a text to a chart: [`lexer`], [`parse`], [`draft`], [`resolve`], [`made`]; what is wrong with it: [`problem`], [`refused`]. What numbers
+//! there are is [`asked`] of the writer. [`known`] is a chart as the commands get it: [`report`], [`totals`], [`why`], [`texted`].
+
+pub mod ages;
+pub mod alone;
+pub mod answer;
+pub mod args;
+pub mod arriving;
+pub mod asked;
+pub mod cache;
+pub mod changed;
+pub mod draft;
+pub mod expect;
+pub mod explained;
+pub mod facts;
+pub mod given;
+pub mod help;
+pub mod input;
+pub mod json;
+pub mod known;
+pub mod lexer;
+pub mod made;
+pub mod misgiven;
+pub mod near;
+pub mod number;
+pub mod paint;
+pub mod parse;
+pub mod parse_cache;
+pub mod parse_node;
+pub mod problem;
+pub mod reference;
+pub mod refused;
+pub mod report;
+pub mod resolve;
+pub mod run;
+pub mod sets;
+pub mod shape;
+pub mod shares;
+pub mod since;
+pub mod source;
+pub mod summary;
+pub mod table;
+pub mod texted;
+pub mod totals;
+pub mod totals_json;
+pub mod totals_words;
+pub mod touches;
+pub mod trouble;
+pub mod why;
+pub mod why_arrows;
+pub mod why_json;
+pub mod why_since;
+pub mod why_words;
+pub mod words;

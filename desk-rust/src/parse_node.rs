@@ -1,0 +1,176 @@
+//! The line of a node: what it does, where it leads, how often a walk comes there.
+
+use crate::draft::{Base, Draft, Name, Node, Reference, VisitsSaid};
+use crate::expect::{a_name, a_number, a_short_number, across, unexpected, unexpected_word};
+use crate::lexer::{Kind, Line, Token};
+use crate::number::{number, told, Placed};
+use crate::parse::twice;
+use crate::problem::Problem;
+use crate::source::Span;
+use veilbuzz::NODES;
+
+const WORDS: [&str; 4] = ["step", "read", "write", "visits"];
+
+const FIRST_MAY: &str = "'step', 'read', 'write', '->', 'visits' or the end of the line";
+const ADDRESS_MAY: &str = "an address: a number, a name that an 'at' line gives, or a name '+' a number";
+const TARGET_MAY: &str = "the name of a node; where the program ends, no arrow";
+
+/// Reads the rest of a node's line. The node is kept by its name whatever faults the line has: others lead to it.
+pub fn node<'a>(draft: &mut Draft<'a>, name: Name<'a>, rest: &mut Line<'a>) -> Result<(), Problem> {
+    draft.count += 1;
+    // one too many is kept, to be told of; the others are only counted
+    if draft.nodes.len() > NODES {
+        return Ok(());
+    }
+    let mut said = Node {
+        name,
+        reference: None,
+        arrows: [None; 2],
+        visits: None,
+    };
+    let read = doing(&mut said, rest).and_then(|()| leading(&mut said, rest));
+    let number = draft.nodes.len();
+    draft.nodes.push(said);
+    let before = *draft.numbers.entry(name.value).or_insert(number);
+    if before != number {
+        return Err(Problem {
+            code: "node-twice",
+            span: name.span,
+            found: format!("'{}' is the name of a node already", told(name.value)),
+            may: "a name that no other node has".into(),
+            mend: Some("give one of the two another name, and look which of them each arrow is to lead to".into()),
+        });
+    }
+    read
+}
+
+fn doing<'a>(said: &mut Node<'a>, rest: &mut Line<'a>) -> Result<(), Problem> {
+    let word = rest.peek();
+    match (word.kind, word.text) {
+        (Kind::Word, "step") => {
+            rest.take();
+        }
+        (Kind::Word, "read" | "write") => {
+            rest.take();
+            said.reference = Some(reference(word.text == "write", rest)?);
+        }
+        (Kind::Word, "visits") | (Kind::Arrow | Kind::End, _) => {}
+        _ => return Err(unexpected_word(word, &WORDS, FIRST_MAY)),
+    }
+    Ok(())
+}
+
+fn reference<'a>(write: bool, rest: &mut Line<'a>) -> Result<Reference<'a>, Problem> {
+    let token = rest.take();
+    let base = match token.kind {
+        Kind::Word => Base::Named(Name {
+            value: token.text,
+            span: token.span,
+        }),
+        Kind::Number => Base::Number(number(token)?.value),
+        _ => return Err(unexpected(token, ADDRESS_MAY, None)),
+    };
+    let mut span = token.span;
+    let mut offset = None;
+    if rest.peek().kind == Kind::Plus {
+        rest.take();
+        let more = a_number(rest, "how many bytes further on, a number")?;
+        span = across(span, more.span);
+        offset = Some(more.value);
+    }
+    let mut size = None;
+    if rest.peek().text == "size" {
+        rest.take();
+        size = Some(a_number(rest, "how many bytes it reads or writes: 1, 2 or 4")?);
+    }
+    Ok(Reference {
+        write,
+        base,
+        offset,
+        span,
+        size,
+    })
+}
+
+fn leading<'a>(said: &mut Node<'a>, rest: &mut Line<'a>) -> Result<(), Problem> {
+    loop {
+        let token = rest.take();
+        match (token.kind, token.text) {
+            (Kind::End, _) => return Ok(()),
+            (Kind::Arrow, _) if said.arrows[0].is_none() => arrows(said, rest)?,
+            (Kind::Word, "visits") if said.visits.is_none() => said.visits = Some(visits(token, rest)?),
+            (Kind::Word, "visits") => return Err(twice("visits", token.span)),
+            _ => return Err(astray(said, token)),
+        }
+    }
+}
+
+/// That a token stands where the arrows or the visits could, or what else is still to be said.
+fn astray(said: &Node, token: Token) -> Problem {
+    let (first, second) = (said.arrows[0].is_some(), said.arrows[1].is_some());
+    let sized = said.reference.as_ref().is_none_or(|reference| reference.size.is_some());
+    let (words, may): (&[&str], _) = match (first, said.visits.is_some()) {
+        (false, false) if !sized => (
+            &["size", "visits"],
+            "'+', 'size', '->', 'visits' or the end of the line",
+        ),
+        (false, false) => (&["visits"], "'->', 'visits' or the end of the line"),
+        (true, false) if second => (&["visits"], "'visits' or the end of the line"),
+        (true, false) => (&["visits"], "',' and a second target, 'visits' or the end of the line"),
+        (false, true) => (&[], "'->' or the end of the line"),
+        (true, true) => (&[], "the end of the line"),
+    };
+    let problem = unexpected_word(token, words, may);
+    let comma = match token.kind {
+        _ if !first || second => None,
+        Kind::Arrow => Some("write ',' before the second target".to_string()),
+        Kind::Word if matches!(token.text, "and" | "or") => Some("write ','".to_string()),
+        Kind::Word => Some(format!("write ', {}', if it is the second target", told(token.text))),
+        _ => None,
+    };
+    Problem {
+        mend: problem.mend.or(comma),
+        ..problem
+    }
+}
+
+fn arrows<'a>(said: &mut Node<'a>, rest: &mut Line<'a>) -> Result<(), Problem> {
+    said.arrows[0] = Some(a_name(rest, TARGET_MAY)?);
+    if rest.peek().kind != Kind::Comma {
+        return Ok(());
+    }
+    rest.take();
+    said.arrows[1] = Some(a_name(rest, TARGET_MAY)?);
+    match rest.peek() {
+        comma if comma.kind == Kind::Comma => Err(third(said.name, comma.span)),
+        _ => Ok(()),
+    }
+}
+
+fn third(name: Name, span: Span) -> Problem {
+    let name = told(name.value);
+    Problem {
+        code: "third-arrow",
+        span,
+        found: format!("a third arrow leads out of '{name}'"),
+        may: "one arrow or two".into(),
+        mend: Some(format!(
+            "put a step in between: '-> .., {name}_else' here, and a line '{name}_else: -> .., ..' for the other targets"
+        )),
+    }
+}
+
+fn visits(word: Token, rest: &mut Line) -> Result<VisitsSaid, Problem> {
+    const MAY: &str = "how often a walk comes here: a number, or a least and a most, as 0..10";
+    let floor = a_short_number(rest, MAY)?;
+    let mut ceiling: Placed<u16> = floor;
+    if rest.peek().kind == Kind::Dots {
+        rest.take();
+        ceiling = a_short_number(rest, "the most that a walk comes here, a number")?;
+    }
+    Ok(VisitsSaid {
+        span: across(word.span, ceiling.span),
+        floor: floor.value,
+        ceiling: ceiling.value,
+    })
+}

@@ -1,0 +1,96 @@
+//! `./desk report`: each node with what it does and its class, how many there are of each class, and the map of sets.
+
+use crate::answer::Answer;
+use crate::cache::{write_heading, Cache};
+use crate::facts::{targets, Facts};
+use crate::json::{list, object, Value};
+use crate::known::Known;
+use crate::paint::{Colour, Painted};
+use crate::reference::doing;
+use crate::sets::Map;
+use crate::summary::Summary;
+use crate::table::{Cell, Side, Table};
+use crate::touches::Touch;
+use crate::trouble::Trouble;
+use crate::words::block;
+use veilbuzz::Class;
+
+pub fn report(known: &Known) -> Result<Answer, Trouble> {
+    let facts = Facts::of(known)?;
+    let summary = Summary::of(&facts.analysis.classes);
+    let map = Map::of(&facts);
+    let mut words = Painted::default();
+    write_heading(known, &mut words);
+    words.line("");
+    nodes(&facts, &mut words);
+    words.line("");
+    summary.write(&mut words);
+    words.line("");
+    map.write(&mut words);
+    let json = object([
+        ("file", known.file.as_str().into()),
+        ("cache", Cache::of(&known.header).json()),
+        ("passes", facts.analysis.passes.into()),
+        ("blocks", facts.analysis.blocks.len().into()),
+        ("entry", facts.brief_json(known.header.entry)),
+        (
+            "nodes",
+            list((0..known.nodes.len()).map(|node| node_json(&facts, node))),
+        ),
+        ("summary", summary.json()),
+        ("sets", map.json()),
+    ]);
+    Ok(Answer::new(words, json))
+}
+
+fn nodes(facts: &Facts, out: &mut Painted) {
+    let columns = ["node", "does", "goes to", "block", "set", "class"].map(|heading| (heading, Side::Left));
+    let mut table = Table::new(columns);
+    for (number, node) in facts.known.nodes.iter().enumerate() {
+        let mark = if facts.is_entry(number) { " (entry)" } else { "" };
+        let to: Vec<&str> = targets(&node.fields).map(|target| facts.name(target)).collect();
+        let to = if to.is_empty() { "(end)".into() } else { to.join(", ") };
+        let [class, second] = facts.analysis.classes[number];
+        let mut touches = facts.touches[number].iter();
+        let [block, set] = placed(touches.next());
+        table.row([
+            format!("{}{mark}", node.name).into(),
+            doing(node).into(),
+            to.into(),
+            block,
+            set,
+            coloured(class),
+        ]);
+        if let Some(touch) = touches.next() {
+            let [block, set] = placed(Some(touch));
+            table.row(["".into(), "".into(), "".into(), block, set, coloured(second)]);
+        }
+    }
+    table.write(0, out);
+}
+
+/// The block of a touch and its set, where there is a touch.
+fn placed(touch: Option<&Touch>) -> [Cell; 2] {
+    match touch {
+        Some(touch) => [block(touch.block).into(), touch.set.to_string().into()],
+        None => ["", ""].map(Cell::from),
+    }
+}
+
+fn coloured(class: Class) -> Cell {
+    Cell::coloured(class.to_string(), Colour::of(class))
+}
+
+fn node_json(facts: &Facts, node: usize) -> Value {
+    let touch = |(touch, class): (&Touch, &Class)| {
+        object([
+            ("block", u64::from(touch.block).into()),
+            ("set", u64::from(touch.set).into()),
+            ("class", class.to_string().into()),
+        ])
+    };
+    let touches = facts.touches[node].iter().zip(&facts.analysis.classes[node]);
+    let mut fields = facts.full_json(node);
+    fields.push(("touches", list(touches.map(touch))));
+    Value::Object(fields)
+}

@@ -1,0 +1,46 @@
+//! What was touched since a block was touched last, in sentences.
+
+use crate::facts::Facts;
+use crate::paint::Painted;
+use crate::since::Since;
+use crate::table::{Side, Table};
+use crate::touches::Touch;
+use crate::words::{block, counted};
+use veilbuzz::Start;
+
+/// Where the block was touched last, and what of its set has been touched since.
+pub fn touched_since(facts: &Facts, touch: Touch, since: &Since, out: &mut Painted) {
+    let start = match facts.known.header.start {
+        Start::Empty => "the cache is empty at the start",
+        Start::Unknown => "what the cache holds at the start is unknown",
+    };
+    if since.last.is_empty() {
+        out.line(format!("No walk has touched it before; {start}."));
+    } else {
+        out.line(format!("It was touched last at {}.", facts.names(&since.last, "or")));
+        if since.from_start {
+            out.line(format!(
+                "A walk can also come from the entry without touching it; {start}."
+            ));
+        }
+    }
+    let set = format!(
+        "set {}, which has {}",
+        touch.set,
+        counted(facts.known.header.ways, "way")
+    );
+    match since.others.len() {
+        0 => return out.line(format!("Since then no other block of set {} is touched.", touch.set)),
+        1 => out.line(format!(
+            "Since then 1 other block of {set}, is touched on one walk or another:"
+        )),
+        others => out.line(format!(
+            "Since then {others} other blocks of {set}, are touched on one walk or another:"
+        )),
+    }
+    let mut table = Table::new([("", Side::Left), ("", Side::Left)]);
+    for (other, nodes) in &since.others {
+        table.row([block(*other).into(), format!("at {}", facts.names(nodes, "and")).into()]);
+    }
+    table.write(2, out);
+}

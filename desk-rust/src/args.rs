@@ -1,5 +1,7 @@
 //! From the words of a call to what is asked.
 
+use crate::expect::a_short_number;
+use crate::lexer::{Kind, Line};
 use crate::near::nearest;
 use crate::trouble::Trouble;
 use std::ffi::{OsStr, OsString};
@@ -15,8 +17,10 @@ pub enum Command {
     Refusal,
 }
 
-/// The commands by name, with the least and the most words that each takes, and its options.
-pub const COMMANDS: [(Command, &str, [usize; 2], &[&str]); 7] = [
+/// A command, its name, the least and the most words that it takes, and its options.
+type Known = (Command, &'static str, [usize; 2], &'static [&'static str]);
+
+pub const COMMANDS: [Known; 7] = [
     (Command::Report, "report", [1, 1], &[]),
     (Command::Totals, "totals", [1, 1], &["--hit", "--miss"]),
     (Command::Why, "why", [2, 2], &[]),
@@ -48,21 +52,30 @@ pub struct Call {
 
 /// Whether the answer is for a script, also where the call is wrong.
 pub fn for_a_script(words: &[OsString]) -> bool {
-    words.iter().any(|word| word == "--json")
+    words
+        .iter()
+        .take_while(|word| *word != "--")
+        .any(|word| word == "--json")
 }
 
 pub fn asked(words: Vec<OsString>) -> Result<Asked, Trouble> {
     let mut words = words.into_iter();
     let Some(first) = words.next() else {
-        return Ok(Asked::Help(None));
+        return Err(Trouble::Usage(
+            "say what is to be done, as in: ./desk report charts/loop.txt; './desk --help' lists the commands".into(),
+        ));
     };
     let name = first.to_string_lossy();
     match name.as_ref() {
-        "--help" | "-h" | "help" => return Ok(Asked::Help(None)),
+        "--help" | "-h" => return Ok(Asked::Help(None)),
+        "help" => {
+            let of = words.next().map(|word| word.to_string_lossy().into_owned());
+            return Ok(Asked::Help(of.and_then(|of| command(&of)).map(|command| command.0)));
+        }
         "--version" | "-V" => return Ok(Asked::Version),
         _ => {}
     }
-    let Some((command, _, [least, most], options)) = COMMANDS.into_iter().find(|command| command.1 == name) else {
+    let Some((command, _, [least, most], options)) = command(&name) else {
         return Err(no_command(&name));
     };
     let mut call = Call {
@@ -102,7 +115,8 @@ pub fn asked(words: Vec<OsString>) -> Result<Asked, Trouble> {
     }
     let given = call.words.len();
     if given < least {
-        return Err(usage(&name, "a word is missing"));
+        let missing = if given == 0 { "name a file" } else { "name a node" };
+        return Err(usage(&name, missing));
     }
     if given > most {
         return Err(usage(
@@ -111,6 +125,10 @@ pub fn asked(words: Vec<OsString>) -> Result<Asked, Trouble> {
         ));
     }
     Ok(Asked::Run(call))
+}
+
+fn command(name: &str) -> Option<Known> {
+    COMMANDS.into_iter().find(|command| command.1 == name)
 }
 
 /// What is wrong with a call of a command.
@@ -136,7 +154,7 @@ fn no_option(name: &str, option: &str, options: &[&str]) -> Trouble {
     usage(
         name,
         &match nearest(option, all) {
-            Some(near) => format!("'{name}' has no option {option}; is {near} meant?"),
+            Some(near) => format!("'{name}' has no option {option}, but {near}"),
             None => format!("'{name}' has no option {option}"),
         },
     )
@@ -144,11 +162,14 @@ fn no_option(name: &str, option: &str, options: &[&str]) -> Trouble {
 
 fn cost(name: &str, option: &str, value: &OsStr) -> Result<u16, Trouble> {
     let text = value.to_string_lossy();
-    let wrong = || {
+    let mut line = Line::new(&text, 0);
+    let cost = a_short_number(&mut line, "")
+        .ok()
+        .filter(|_| line.peek().kind == Kind::End);
+    cost.map(|cost| cost.value).ok_or_else(|| {
         usage(
             name,
             &format!("{option} is a number from 0 to {}, and not '{text}'", u16::MAX),
         )
-    };
-    text.parse().map_err(|_| wrong())
+    })
 }

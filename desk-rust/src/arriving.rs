@@ -21,25 +21,38 @@ fn origins(facts: &Facts, node: usize) -> Vec<Origin> {
     start.into_iter().chain(sources).collect()
 }
 
-/// What comes to a node from each origin; `None` where the chart has no room for a step more.
-pub fn arrivals(facts: &Facts, node: usize) -> Result<Option<Vec<Arrival>>, Refusal> {
+/// The node at which what comes to a node meets: itself, or the first of the bare steps in a row that alone lead to it. A bare step hands on
+/// all ages as they are.
+pub fn meeting(facts: &Facts, node: usize) -> usize {
+    let mut at = node;
+    for _ in 0..facts.known.nodes.len() {
+        match origins(facts, at).as_slice() {
+            [Origin::Node(from)] if facts.touches[*from].is_empty() => at = *from,
+            _ => break,
+        }
+    }
+    at
+}
+
+/// What comes from each origin to the node where it meets on its way to a node; `None` where the chart has no room for a step more.
+pub fn arrivals(facts: &Facts, node: usize, meeting: usize) -> Result<Option<Vec<Arrival>>, Refusal> {
     let room = spare(facts.known);
     if room == 0 {
         return Ok(None);
     }
     let mut arrivals = vec![];
-    for some in origins(facts, node).chunks(room) {
-        arrivals.extend(arrivals_of(facts, node, some)?);
+    for some in origins(facts, meeting).chunks(room) {
+        arrivals.extend(arrivals_of(facts, node, meeting, some)?);
     }
     Ok(Some(arrivals))
 }
 
 /// The same of some origins, for which there is room.
-fn arrivals_of(facts: &Facts, node: usize, origins: &[Origin]) -> Result<Vec<Arrival>, Refusal> {
+fn arrivals_of(facts: &Facts, node: usize, meeting: usize, origins: &[Origin]) -> Result<Vec<Arrival>, Refusal> {
     let mut changed = Changed::of(facts.known);
     let steps: Vec<usize> = origins
         .iter()
-        .map(|origin| changed.step_before(node, *origin))
+        .map(|origin| changed.step_before(meeting, *origin))
         .collect();
     let analysis = changed.analysis()?;
     let arrival = |(origin, step): (&Origin, usize)| Arrival {

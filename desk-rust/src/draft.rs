@@ -68,6 +68,19 @@ pub struct VisitsSaid {
     pub ceiling: u16,
 }
 
+impl Cache {
+    /// A line of which nothing has been read yet.
+    pub fn unsaid(span: Span) -> Cache {
+        Cache {
+            span,
+            line: None,
+            sets: None,
+            ways: None,
+            start: None,
+        }
+    }
+}
+
 impl Draft<'_> {
     pub fn new<'a>() -> Draft<'a> {
         Draft {

@@ -3,15 +3,15 @@
 use crate::lexer::{Kind, Line, Token};
 use crate::near::nearest;
 use crate::number::{number, told, Placed};
-use crate::problem::Problem;
+use crate::problem::{is_unseen, Problem};
 use crate::source::Span;
 
 /// A token as a sentence names it.
 pub fn named(token: Token) -> String {
     match token.kind {
-        Kind::Other if token.text.chars().all(char::is_control) => {
+        Kind::Other if token.text.chars().all(is_unseen) => {
             let code = token.text.chars().next().map_or(0, u32::from);
-            format!("a sign that is not text (U+{code:04X})")
+            format!("a sign that is not seen (U+{code:04X})")
         }
         _ => format!("'{}'", told(token.text)),
     }
@@ -19,7 +19,6 @@ pub fn named(token: Token) -> String {
 
 /// That a token is not what may stand there.
 pub fn unexpected(token: Token, may: &str, mend: Option<String>) -> Problem {
-    let left_out = || matches!(token.kind, Kind::Comma | Kind::Equals).then(|| "leave it out".to_string());
     Problem {
         code: "unexpected",
         span: token.span,
@@ -28,7 +27,7 @@ pub fn unexpected(token: Token, may: &str, mend: Option<String>) -> Problem {
             _ => format!("{} does not fit here", named(token)),
         },
         may: may.into(),
-        mend: mend.or_else(left_out),
+        mend,
     }
 }
 
@@ -41,11 +40,16 @@ pub fn unexpected_word(token: Token, words: &[&str], may: &str) -> Problem {
     unexpected(token, may, meant.map(|word| format!("write '{word}'")))
 }
 
+/// What is to be done with a sign that stands between words by habit.
+pub fn without_sign(token: Token) -> Option<String> {
+    matches!(token.kind, Kind::Comma | Kind::Equals).then(|| "leave it out".into())
+}
+
 pub fn a_number(line: &mut Line, may: &str) -> Result<Placed<u64>, Problem> {
     let token = line.take();
     match token.kind {
         Kind::Number => number(token),
-        _ => Err(unexpected(token, may, None)),
+        _ => Err(unexpected(token, may, without_sign(token))),
     }
 }
 

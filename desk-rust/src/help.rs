@@ -8,7 +8,7 @@ which cannot be told.
 
     ./desk new > mine.txt                       a chart in words to begin with
     ./desk report mine.txt                      each node with its block, set and class, and the map of sets
-    ./desk totals mine.txt                      the least and the most that the program costs, and each node's share
+    ./desk totals mine.txt                      two bounds on what the references cost, and each node's share of them
     ./desk why mine.txt NODE                    why a node is called a miss, or cannot be told
     ./desk chart mine.txt -o mine.chart         the chart in bytes, for the proved program and for C
     ./desk text mine.chart                      a chart of bytes in words
@@ -40,9 +40,9 @@ than ways is over-full.
 const TOTALS: &str = "\
 ./desk totals FILE [--hit COST] [--miss COST] [--json]
 
-The least and the most that a walk costs, if each node is visited as often as the text says, and what each node adds, the
-largest share of the high total first. Costs are those of the line 'cost', unless --hit or --miss give others. Each node
-needs its visits.
+Two bounds: the references of a walk cost no less than the low total and no more than the high one, if each node is visited
+as often as the text says; what instructions take beside is not counted. Then what each node adds, the largest share of the
+high total first. Costs are those of the line 'cost', unless --hit or --miss give others. Each node needs its visits.
 
     ./desk totals charts/winch-as-built.txt
     ./desk totals charts/winch-as-built.txt --miss 20

@@ -57,7 +57,7 @@ fn open(path: &OsStr) -> Result<File, Trouble> {
     }
     File::open(path).map_err(|error| {
         Trouble::Files(match error.kind() {
-            io::ErrorKind::NotFound => format!("there is no file {file}; './desk new' prints a chart to begin with"),
+            io::ErrorKind::NotFound => format!("there is no file '{file}'; './desk new' prints a chart to begin with"),
             _ => format!("{file} cannot be read: {error}"),
         })
     })
@@ -66,6 +66,11 @@ fn open(path: &OsStr) -> Result<File, Trouble> {
 impl Input {
     pub fn is_chart(&self) -> bool {
         self.bytes.first() == Some(&EDITION)
+    }
+
+    /// Whether it can be a text: no chart is without a byte 0.
+    pub fn is_text(&self) -> bool {
+        !self.bytes.is_empty() && !self.bytes.contains(&0) && std::str::from_utf8(&self.bytes).is_ok()
     }
 
     /// The chart, made from its text if it is one.

@@ -6,6 +6,7 @@
 //! From a text to a chart: [`lexer`], [`parse`], [`draft`], [`resolve`], [`made`]; what is wrong with it: [`problem`], [`refused`]. What numbers
 //! there are is [`asked`] of the writer. [`known`] is a chart as the commands get it: [`report`], [`totals`], [`why`], [`texted`].
 
+pub mod again;
 pub mod ages;
 pub mod alone;
 pub mod answer;

@@ -25,6 +25,9 @@ fn distance(one: &[char], other: &[char], most: usize) -> Option<usize> {
             let shifted = last[column + 1].min(next[column]) + 1;
             next[column + 1] = changed.min(swapped).min(shifted).min(far);
         }
+        if last.iter().chain(&next).all(|cell| *cell == far) {
+            return None;
+        }
         (before, last) = (last, next);
     }
     Some(last[other.len()]).filter(|found| *found <= most)
@@ -42,6 +45,10 @@ pub fn nearest<'a>(written: &str, names: impl IntoIterator<Item = &'a str>) -> O
     // a short name is like every other short name
     let most = APART.min(written.len() / 2);
     let found = names.into_iter().filter_map(|name| {
+        // a small letter is seldom more than one
+        if name.chars().count().abs_diff(written.len()) > most {
+            return None;
+        }
         let against = letters(name)?;
         Some((distance(&written, &against, most)?, name))
     });

@@ -57,7 +57,11 @@ pub fn number(token: Token) -> Result<Placed<u64>, Problem> {
     };
     if radix == 10 && digits.starts_with('0') && plain.count() > 1 {
         let found = format!("{} begins with 0: that could be meant as octal", told(text));
-        return Err(problem("leading-zero", found, Some(format!("write {value}"))));
+        let octal = u64::from_str_radix(&text.replace('_', ""), 8)
+            .ok()
+            .filter(|octal| *octal != value);
+        let octal = octal.map_or(String::new(), |octal| format!(", or 0x{octal:X} if it is octal"));
+        return Err(problem("leading-zero", found, Some(format!("write {value}{octal}"))));
     }
     Ok(Placed {
         value,
@@ -67,6 +71,9 @@ pub fn number(token: Token) -> Result<Placed<u64>, Problem> {
 
 /// What may be meant by what is no number: hexadecimal digits without their 0x, or with an h behind them.
 fn meant(text: &str) -> Option<String> {
+    if text.starts_with("0b") || text.starts_with("0o") {
+        return Some("write it in decimal or hexadecimal".into());
+    }
     let digits = text.strip_suffix(['h', 'H']).unwrap_or(text);
     let hexadecimal = !digits.is_empty() && digits.len() <= 16 && digits.chars().all(|digit| digit.is_ascii_hexdigit());
     hexadecimal.then(|| format!("write 0x{digits}, if it is hexadecimal"))

@@ -1,6 +1,6 @@
 //! From a text to a draft. A line has one fault at most told of it; the next line is read whatever stood in this one.
 
-use crate::draft::{Draft, Name};
+use crate::draft::{Cache, Draft, Name};
 use crate::expect::{a_name, a_number, named, the_end, unexpected};
 use crate::lexer::{Kind, Line, Token};
 use crate::near::nearest;
@@ -11,7 +11,7 @@ use crate::problem::Problem;
 use crate::source::Span;
 
 /// What a line that is no node's begins with.
-const LINES: [&str; 4] = ["cache", "cost", "entry", "at"];
+pub const LINES: [&str; 4] = ["cache", "cost", "entry", "at"];
 
 const LINE_MAY: &str = "'cache', 'cost', 'entry', 'at', or a node's name and ':'";
 
@@ -54,15 +54,32 @@ fn line<'a>(draft: &mut Draft<'a>, mut rest: Line<'a>) -> Result<(), Problem> {
         (Kind::Word, "cost") => costs(draft, token.span, &mut rest),
         (Kind::Word, "entry") => entry(draft, token.span, &mut rest),
         (Kind::Word, "at") => address(draft, &mut rest),
-        _ => Err(no_line(token, rest.peek())),
+        _ => {
+            let meant = meant(token);
+            match meant {
+                // it is there, if mistyped: it is not to be told as missing too
+                Some("cache") => drop(draft.cache.get_or_insert(Cache::unsaid(token.span))),
+                Some("entry") => drop(draft.entry.get_or_insert(None)),
+                _ => {}
+            }
+            Err(no_line(token, meant, rest.peek()))
+        }
+    }
+}
+
+/// The word that a line may be meant to begin with.
+fn meant(token: Token) -> Option<&'static str> {
+    match token.kind {
+        Kind::Word => nearest(token.text, LINES),
+        _ => None,
     }
 }
 
 /// That no line begins so: a mistyped word, a node without its colon, digits of a chart, or something else.
-fn no_line(token: Token, next: Token) -> Problem {
+fn no_line(token: Token, meant: Option<&str>, next: Token) -> Problem {
     let node = || format!("write '{}:', if it is a node", told(token.text));
     let mend = match token.kind {
-        Kind::Word => match (nearest(token.text, LINES), next.kind, next.text) {
+        Kind::Word => match (meant, next.kind, next.text) {
             (_, Kind::Arrow, _) | (_, Kind::Word, "step" | "read" | "write" | "visits") => Some(node()),
             (Some(word), _, _) => Some(format!("write '{word}'")),
             (None, _, _) => Some(node()),
@@ -122,6 +139,15 @@ fn address<'a>(draft: &mut Draft<'a>, rest: &mut Line<'a>) -> Result<(), Problem
         return Err(unexpected(sign, "'='", Some(mend)));
     }
     let value = a_number(rest, "an address as a number, as 0x20000080")?;
+    if u32::try_from(value.value).is_err() {
+        return Err(Problem {
+            code: "number-past-its-width",
+            span: value.span,
+            found: format!("0x{:X} is too large: addresses are 32-bit numbers", value.value),
+            may: "an address from 0 to 0xFFFFFFFF".into(),
+            mend: None,
+        });
+    }
     draft.addresses.insert(name.value, Some(value.value));
     the_end(rest, "the end of the line: an address is one number")
 }

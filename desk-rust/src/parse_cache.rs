@@ -1,7 +1,7 @@
 //! The lines of the cache and of the costs: words in any order, each with its number.
 
 use crate::draft::{Cache, CostLine, Draft};
-use crate::expect::{a_number, a_short_number, across, unexpected_word};
+use crate::expect::{a_number, a_short_number, across, unexpected_word, without_sign};
 use crate::lexer::{Kind, Line, Token};
 use crate::number::Placed;
 use crate::parse::twice;
@@ -18,13 +18,7 @@ const COSTS_MAY: &str = "'hit' and a number, and 'miss' and a number";
 const START_MAY: &str = "'unknown' (the cache may hold anything at the start) or 'empty' (it holds nothing)";
 
 pub fn cache(draft: &mut Draft, span: Span, rest: &mut Line) -> Result<(), Problem> {
-    let mut said = Cache {
-        span,
-        line: None,
-        sets: None,
-        ways: None,
-        start: None,
-    };
+    let mut said = Cache::unsaid(span);
     let second = draft.cache.is_some();
     let read = each(rest, |word, rest| shape(&mut said, word, rest));
     said.span = across(span, rest.peek().span);
@@ -43,7 +37,7 @@ pub fn costs(draft: &mut Draft, span: Span, rest: &mut Line) -> Result<(), Probl
         let slot = match word.text {
             "hit" => &mut hit,
             "miss" => &mut miss,
-            _ => return Err(unexpected_word(word, &COSTS, COSTS_MAY)),
+            _ => return Err(no_word(word, &COSTS, COSTS_MAY)),
         };
         put(slot, word, a_short_number(rest, "what it costs, a number")?.value)
     })?;
@@ -80,6 +74,15 @@ fn each(rest: &mut Line, mut read: impl FnMut(Token, &mut Line) -> Result<(), Pr
     }
 }
 
+/// That a token is none of the words of a line in which no sign stands between them.
+fn no_word(token: Token, words: &[&str], may: &str) -> Problem {
+    let problem = unexpected_word(token, words, may);
+    Problem {
+        mend: problem.mend.or_else(|| without_sign(token)),
+        ..problem
+    }
+}
+
 /// Keeps what a word says, if it has not been said before.
 fn put<T>(slot: &mut Option<T>, word: Token, value: T) -> Result<(), Problem> {
     match slot.replace(value) {
@@ -99,11 +102,11 @@ fn shape(said: &mut Cache, word: Token, rest: &mut Line) -> Result<(), Problem> 
             let start = match token.text {
                 "empty" => Start::Empty,
                 "unknown" => Start::Unknown,
-                _ => return Err(unexpected_word(token, &STARTS, START_MAY)),
+                _ => return Err(no_word(token, &STARTS, START_MAY)),
             };
             put(&mut said.start, word, start)
         }
-        _ => Err(unexpected_word(word, &SHAPE, SHAPE_MAY)),
+        _ => Err(no_word(word, &SHAPE, SHAPE_MAY)),
     }
 }
 

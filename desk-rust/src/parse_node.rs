@@ -4,7 +4,7 @@ use crate::draft::{Base, Draft, Name, Node, Reference, VisitsSaid};
 use crate::expect::{a_name, a_number, a_short_number, across, unexpected, unexpected_word};
 use crate::lexer::{Kind, Line, Token};
 use crate::number::{number, told, Placed};
-use crate::parse::twice;
+use crate::parse::{twice, LINES};
 use crate::problem::Problem;
 use crate::source::Span;
 use veilbuzz::NODES;
@@ -55,9 +55,25 @@ fn doing<'a>(said: &mut Node<'a>, rest: &mut Line<'a>) -> Result<(), Problem> {
             said.reference = Some(reference(word.text == "write", rest)?);
         }
         (Kind::Word, "visits") | (Kind::Arrow | Kind::End, _) => {}
-        _ => return Err(unexpected_word(word, &WORDS, FIRST_MAY)),
+        _ => return Err(not_doing(said.name, word)),
     }
     Ok(())
+}
+
+/// That a node does nothing of the kind.
+fn not_doing(name: Name, word: Token) -> Problem {
+    let problem = unexpected_word(word, &WORDS, FIRST_MAY);
+    let mend = match LINES.contains(&name.value) {
+        true => Some("leave the ':' out, if this is no node".into()),
+        false => problem.mend.or_else(|| arrow_meant(word)),
+    };
+    Problem { mend, ..problem }
+}
+
+/// A sign that may be meant for an arrow.
+fn arrow_meant(token: Token) -> Option<String> {
+    let is_meant = matches!(token.text, "-" | "=" | ">" | "→" | "⇒");
+    is_meant.then(|| "write '->', if an arrow is meant".into())
 }
 
 fn reference<'a>(write: bool, rest: &mut Line<'a>) -> Result<Reference<'a>, Problem> {
@@ -74,7 +90,7 @@ fn reference<'a>(write: bool, rest: &mut Line<'a>) -> Result<Reference<'a>, Prob
     let mut offset = None;
     if rest.peek().kind == Kind::Plus {
         rest.take();
-        let more = a_number(rest, "how many bytes further on, a number")?;
+        let more = more(token, rest)?;
         span = across(span, more.span);
         offset = Some(more.value);
     }
@@ -89,6 +105,19 @@ fn reference<'a>(write: bool, rest: &mut Line<'a>) -> Result<Reference<'a>, Prob
         offset,
         span,
         size,
+    })
+}
+
+/// How many bytes further on than an address.
+fn more(base: Token, rest: &mut Line) -> Result<Placed<u64>, Problem> {
+    let next = rest.peek();
+    let problem = match a_number(rest, "how many bytes further on, a number") {
+        Err(problem) if base.kind == Kind::Number && next.kind == Kind::Word => problem,
+        read => return read,
+    };
+    Err(Problem {
+        mend: Some(format!("write '{} + {}'", told(next.text), told(base.text))),
+        ..problem
     })
 }
 
@@ -108,30 +137,35 @@ fn leading<'a>(said: &mut Node<'a>, rest: &mut Line<'a>) -> Result<(), Problem> 
 /// That a token stands where the arrows or the visits could, or what else is still to be said.
 fn astray(said: &Node, token: Token) -> Problem {
     let (first, second) = (said.arrows[0].is_some(), said.arrows[1].is_some());
-    let sized = said.reference.as_ref().is_none_or(|reference| reference.size.is_some());
-    let (words, may): (&[&str], _) = match (first, said.visits.is_some()) {
-        (false, false) if !sized => (
+    let (words, may): (&[&str], _) = match (first, said.visits.is_some(), &said.reference) {
+        (false, false, Some(Reference { size: None, offset, .. })) => (
             &["size", "visits"],
-            "'+', 'size', '->', 'visits' or the end of the line",
+            match offset {
+                None => "'+', 'size', '->', 'visits' or the end of the line",
+                Some(_) => "'size', '->', 'visits' or the end of the line",
+            },
         ),
-        (false, false) => (&["visits"], "'->', 'visits' or the end of the line"),
-        (true, false) if second => (&["visits"], "'visits' or the end of the line"),
-        (true, false) => (&["visits"], "',' and a second target, 'visits' or the end of the line"),
-        (false, true) => (&[], "'->' or the end of the line"),
-        (true, true) => (&[], "the end of the line"),
+        (false, false, _) => (&["visits"], "'->', 'visits' or the end of the line"),
+        (true, false, _) if second => (&["visits"], "'visits' or the end of the line"),
+        (true, false, _) => (&["visits"], "',' and a second target, 'visits' or the end of the line"),
+        (false, true, _) => (&[], "'->' or the end of the line"),
+        (true, true, _) => (&[], "the end of the line"),
     };
     let problem = unexpected_word(token, words, may);
-    let comma = match token.kind {
-        _ if !first || second => None,
-        Kind::Arrow => Some("write ',' before the second target".to_string()),
-        Kind::Word if matches!(token.text, "and" | "or") => Some("write ','".to_string()),
-        Kind::Word => Some(format!("write ', {}', if it is the second target", told(token.text))),
+    let mend = match (token.kind, token.text) {
+        (Kind::Word, "step" | "read" | "write") => Some("what a node does stands before all else".to_string()),
+        (Kind::Number, text) if words.contains(&"size") => {
+            Some(format!("write 'size {}', if it is the size", told(text)))
+        }
+        _ if problem.mend.is_some() => problem.mend,
+        _ if !first => arrow_meant(token),
+        _ if second => None,
+        (Kind::Arrow, _) => Some("write ',' before the second target".to_string()),
+        (Kind::Word, "and" | "or") => Some("write ','".to_string()),
+        (Kind::Word, text) => Some(format!("write ', {}', if it is the second target", told(text))),
         _ => None,
     };
-    Problem {
-        mend: problem.mend.or(comma),
-        ..problem
-    }
+    Problem { mend, ..problem }
 }
 
 fn arrows<'a>(said: &mut Node<'a>, rest: &mut Line<'a>) -> Result<(), Problem> {
@@ -164,9 +198,17 @@ fn visits(word: Token, rest: &mut Line) -> Result<VisitsSaid, Problem> {
     const MAY: &str = "how often a walk comes here: a number, or a least and a most, as 0..10";
     let floor = a_short_number(rest, MAY)?;
     let mut ceiling: Placed<u16> = floor;
-    if rest.peek().kind == Kind::Dots {
-        rest.take();
-        ceiling = a_short_number(rest, "the most that a walk comes here, a number")?;
+    match rest.peek() {
+        next if next.kind == Kind::Dots => {
+            rest.take();
+            ceiling = a_short_number(rest, "the most that a walk comes here, a number")?;
+        }
+        next if next.text == "-" || next.kind == Kind::Number => {
+            let may = "'..' and the most, '->' or the end of the line";
+            let mend = format!("write 'visits {}..' and the most", floor.value);
+            return Err(unexpected(next, may, Some(mend)));
+        }
+        _ => {}
     }
     Ok(VisitsSaid {
         span: across(word.span, ceiling.span),

@@ -145,13 +145,18 @@ fn last(text: &str, count: usize) -> &str {
     }
 }
 
-/// A text in which each letter takes one place, and none moves the others about.
+/// Whether a sign is not seen by itself, or moves others about: controls, marks over letters, signs of direction and of no width.
+pub fn is_unseen(sign: char) -> bool {
+    let marks = matches!(sign, '\u{AD}' | '\u{300}'..='\u{36F}' | '\u{200B}'..='\u{200F}' | '\u{202A}'..='\u{202E}');
+    marks || matches!(sign, '\u{2060}'..='\u{2069}' | '\u{FEFF}') || sign.is_control()
+}
+
+/// A text in which each sign takes one place.
 pub fn seen(text: &str) -> String {
-    let plain = |letter: char| match letter {
+    let plain = |sign: char| match sign {
         '\t' => ' ',
-        '\u{200B}'..='\u{200F}' | '\u{202A}'..='\u{202E}' | '\u{2060}'..='\u{2069}' | '\u{FEFF}' => '?',
-        letter if letter.is_control() => '?',
-        letter => letter,
+        sign if is_unseen(sign) => '?',
+        sign => sign,
     };
     text.chars().map(plain).collect()
 }

@@ -11,7 +11,7 @@ use veilbuzz::{Fields, Refusal, BLOCKS, NODES};
 /// node's that there is, and the lists are as long as there are nodes.
 pub fn told_at(refusal: Refusal, draft: &Draft, fields: &[Fields], end: Span) -> Problem {
     match (refusal.number, draft.nodes.get(refusal.place)) {
-        (5, _) => nodes(draft, end),
+        (5, _) if draft.nodes.len() > NODES => nodes(draft),
         (9, Some(node)) => record(node, fields[refusal.place]),
         (10, Some(node)) => Problem {
             code: "refused-10",
@@ -30,18 +30,11 @@ pub fn told_at(refusal: Refusal, draft: &Draft, fields: &[Fields], end: Span) ->
     }
 }
 
-fn nodes(draft: &Draft, end: Span) -> Problem {
-    let (span, found) = match draft.nodes.get(NODES) {
-        Some(node) => (
-            node.name.span,
-            format!("this is one node too many; there are {} in all", draft.count),
-        ),
-        None => (end, "the text has no node".into()),
-    };
+fn nodes(draft: &Draft) -> Problem {
     Problem {
         code: "refused-5",
-        span,
-        found,
+        span: draft.nodes[NODES].name.span,
+        found: format!("this is one node too many; there are {} in all", draft.count),
         may: format!("1 to {NODES} lines of nodes, 'NAME: ..'"),
         mend: Some("'./desk refusal 5' says what can be done".into()),
     }

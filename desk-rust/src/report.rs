@@ -25,6 +25,11 @@ pub fn report(known: &Known) -> Result<Answer, Trouble> {
     nodes(&facts, &mut words);
     words.line("");
     summary.write(&mut words);
+    let ends = ends(&facts);
+    words.line(match ends.as_slice() {
+        [] => "the program has no end: each node leads on".into(),
+        ends => format!("the program ends at {}", facts.names(ends, "or")),
+    });
     words.line("");
     map.write(&mut words);
     let json = object([
@@ -38,9 +43,17 @@ pub fn report(known: &Known) -> Result<Answer, Trouble> {
             list((0..known.nodes.len()).map(|node| node_json(&facts, node))),
         ),
         ("summary", summary.json()),
+        ("ends", facts.briefs_json(&ends)),
         ("sets", map.json()),
     ]);
     Ok(Answer::new(words, json))
+}
+
+/// The nodes that a walk comes to and that lead nowhere. A forgotten arrow shows here.
+fn ends(facts: &Facts) -> Vec<usize> {
+    let nodes = 0..facts.known.nodes.len();
+    let is_end = |node: &usize| facts.reached(*node) && facts.node(*node).fields.outs == 0;
+    nodes.filter(is_end).collect()
 }
 
 fn nodes(facts: &Facts, out: &mut Painted) {

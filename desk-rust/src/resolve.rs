@@ -24,7 +24,7 @@ pub fn resolve(draft: &Draft, end: Span, problems: &mut Problems) -> Option<(Hea
         }
     };
     let entry = match draft.entry {
-        Some(name) => node_number(draft, name?, problems),
+        Some(name) => name.and_then(|name| node_number(draft, name, problems)),
         None => {
             let first = draft.nodes.first().map_or("NODE".into(), |node| told(node.name.value));
             problems.push(no_line(
@@ -171,7 +171,10 @@ fn size(reference: &Reference, sizes: &[u64], problems: &mut Problems) -> Option
             span: said.span,
             found: format!("one reference cannot have {} bytes", said.value),
             may: one_of(sizes),
-            mend: Some("a longer one is several references, one after the other, each a node of its own".into()),
+            mend: sizes
+                .last()
+                .filter(|largest| said.value > **largest)
+                .map(|_| "a longer one is several references, one after the other, each a node of its own".to_string()),
         });
     }
     code.map(|code| Some(code as u64))

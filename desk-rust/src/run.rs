@@ -12,8 +12,10 @@ use crate::texted::texted;
 use crate::totals::totals;
 use crate::trouble::Trouble;
 use crate::why::why;
+use std::borrow::Cow;
 use std::ffi::OsStr;
 use std::fs;
+use std::os::unix::fs::MetadataExt;
 
 /// What goes to standard output: an answer, or the bytes of a chart.
 pub enum Output {
@@ -30,7 +32,7 @@ pub fn run(call: &Call) -> Result<Output, Trouble> {
         Command::Totals => totals(&file()?.known()?, call.hit, call.miss),
         Command::Why => {
             let known = file()?.known()?;
-            why(&known, node(&known, &call.words[1].to_string_lossy())?)
+            why(&known, node(call, &known, &call.words[1].to_string_lossy())?)
         }
         Command::Chart => return chart(call, file()?),
         Command::Text => text(call, file()?),
@@ -41,14 +43,24 @@ pub fn run(call: &Call) -> Result<Output, Trouble> {
 }
 
 /// The node that is asked about, by its name.
-fn node(known: &Known, name: &str) -> Result<usize, Trouble> {
+fn node(call: &Call, known: &Known, name: &str) -> Result<usize, Trouble> {
+    let numbered = name.parse().ok().and_then(|number: usize| known.nodes.get(number));
     known.named(name).ok_or_else(|| Trouble::Unanswered {
         what: format!("{} has no node '{name}'", known.file),
-        mend: match nearest(name, known.nodes.iter().map(|node| node.name.as_str())) {
-            Some(near) => format!("is '{near}' meant?"),
-            None => format!("'./desk report {}' lists its nodes", known.file),
+        mend: match (
+            numbered,
+            nearest(name, known.nodes.iter().map(|node| node.name.as_str())),
+        ) {
+            (Some(node), _) => format!("node {name} is called '{}'", node.name),
+            (None, Some(near)) => format!("is '{near}' meant?"),
+            (None, None) => format!("'./desk report {}' lists its nodes", asked_about(call)),
         },
     })
+}
+
+/// The file as it was named in the call.
+fn asked_about(call: &Call) -> Cow<'_, str> {
+    call.words[0].to_string_lossy()
 }
 
 /// Writes the chart that a text says.
@@ -61,7 +73,7 @@ fn chart(call: &Call, input: Input) -> Result<Output, Trouble> {
     if input.is_chart() {
         return Err(Trouble::Unanswered {
             what: format!("{} is a chart of bytes already", input.file),
-            mend: format!("'./desk text {}' puts it into words", input.file),
+            mend: format!("'./desk text {}' puts it into words", asked_about(call)),
         });
     }
     let known = input.known()?;
@@ -93,6 +105,15 @@ fn chart(call: &Call, input: Input) -> Result<Output, Trouble> {
 
 /// Puts a chart of bytes into words.
 fn text(call: &Call, input: Input) -> Result<Answer, Trouble> {
+    if input.is_text() {
+        return Err(Trouble::Unanswered {
+            what: format!("{} is a text already", input.file),
+            mend: format!(
+                "'./desk chart {} -o X.chart' makes a chart of bytes of it",
+                asked_about(call)
+            ),
+        });
+    }
     let file = input.file.clone();
     let text = texted(&input.read()?);
     let json = |written: Value| {
@@ -118,11 +139,13 @@ fn text(call: &Call, input: Input) -> Result<Answer, Trouble> {
 /// Writes a file, but not over the one that was read.
 fn write(call: &Call, output: &OsStr, bytes: &[u8]) -> Result<(), Trouble> {
     let name = output.to_string_lossy();
-    let same = match (fs::canonicalize(&call.words[0]), fs::canonicalize(output)) {
-        (Ok(source), Ok(output)) => source == output,
-        _ => false,
+    let source = match &call.words[0] {
+        word if word == STANDARD_INPUT => OsStr::new("/dev/stdin"),
+        word => word,
     };
-    if same {
+    // by the file itself, whatever names it has
+    let itself = |path: &OsStr| fs::metadata(path).map(|file| (file.dev(), file.ino())).ok();
+    if itself(output).is_some_and(|output| itself(source) == Some(output)) {
         return Err(Trouble::Usage(format!(
             "{name} is what is read; give what is written another name"
         )));

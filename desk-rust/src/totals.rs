@@ -1,5 +1,6 @@
 //! `./desk totals`: the low and the high total, and what each node adds to them.
 
+use crate::again::never_again;
 use crate::answer::Answer;
 use crate::facts::Facts;
 use crate::given::Given;
@@ -19,6 +20,8 @@ pub struct Totals<'a> {
     pub sum: veilbuzz::Totals,
     /// The largest share of the high total first.
     pub shares: Vec<Share>,
+    /// The nodes whose visits no walk can make.
+    pub never_again: Vec<usize>,
 }
 
 /// What a node adds.
@@ -54,6 +57,7 @@ pub fn totals(known: &Known, hit: Option<u16>, miss: Option<u16>) -> Result<Answ
         totals,
         sum,
         shares,
+        never_again: never_again(&facts),
     };
     Ok(Answer::new(words(&totals), json(&totals)))
 }

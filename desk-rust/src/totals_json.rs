@@ -15,6 +15,7 @@ pub fn json(totals: &Totals) -> Value {
         ("totals", both(totals.totals)),
         ("shares", list(totals.shares.iter().map(|share| adds(totals, share)))),
         ("sum_of_shares", both(totals.sum)),
+        ("never_again", totals.facts.briefs_json(&totals.never_again)),
     ])
 }
 

@@ -22,6 +22,13 @@ pub fn words(totals: &Totals) -> Painted {
     both.write(0, &mut out);
     out.line("");
     shares(totals).write(0, &mut out);
+    if !totals.never_again.is_empty() {
+        let names = totals.facts.names(&totals.never_again, "and");
+        out.line("");
+        out.line(format!(
+            "No walk comes twice to {names}, and the visits say more. Is an arrow back missing? Else the totals are of no walk."
+        ));
+    }
     out
 }
 

@@ -25,6 +25,11 @@ pub const REFUSED: u8 = 1;
 /// Where the call is wrong, or a file cannot be read or written.
 pub const NOT_ASKED: u8 = 2;
 
+/// Whether the place of a refusal is a node (rule 11.0).
+fn at_a_node(refusal: &Refusal) -> bool {
+    matches!(refusal.number, 9 | 10 | 16 | 17)
+}
+
 impl Trouble {
     pub fn status(&self) -> u8 {
         match self {
@@ -54,7 +59,7 @@ impl Trouble {
                 ("code", "refused".into()),
                 ("file", file.as_str().into()),
                 ("refusal", refusal.number.into()),
-                ("node", refusal.place.into()),
+                ("node", at_a_node(refusal).then_some(refusal.place).into()),
                 ("what", refusal.to_string().into()),
             ])],
             Trouble::Unanswered { what, mend } => vec![object([

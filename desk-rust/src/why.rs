@@ -2,7 +2,7 @@
 
 use crate::ages::Ages;
 use crate::answer::Answer;
-use crate::arriving::{arrivals, between, Arrival};
+use crate::arriving::{arrivals, between, meeting, Arrival};
 use crate::facts::{refused_in, Facts};
 use crate::known::Known;
 use crate::since::{since, Since};
@@ -18,7 +18,9 @@ pub struct Why<'a> {
     pub node: usize,
     /// Its touches, where a walk comes.
     pub touches: Vec<Reasons>,
-    /// What comes to it from each origin, where that can be shown.
+    /// Where what comes to it meets: there, or at a bare step before.
+    pub meeting: usize,
+    /// What comes there from each origin, where that can be shown.
     pub arrivals: Option<Vec<Arrival>>,
 }
 
@@ -49,11 +51,13 @@ impl<'a> Why<'a> {
             false => 0,
         };
         let touches: Result<Vec<_>, Refusal> = (0..touches).map(|place| Reasons::of(facts, node, place)).collect();
+        let meeting = meeting(facts, node);
         Ok(Why {
             facts,
             node,
             touches: touches?,
-            arrivals: arrivals(facts, node)?,
+            meeting,
+            arrivals: arrivals(facts, node, meeting)?,
         })
     }
 

@@ -23,6 +23,14 @@ pub fn arrived(why: &Why, reasons: &Reasons, out: &mut Painted) {
             why.facts.name(why.node)
         ),
     };
+    let comes = match why.meeting == why.node {
+        true => comes,
+        false => format!(
+            "{} through {}, and there",
+            comes.trim_end_matches(','),
+            why.facts.name(why.meeting)
+        ),
+    };
     let Some(arrivals) = &why.arrivals else {
         return out.line(format!("By which arrows it comes {}.", no_room()));
     };
@@ -35,7 +43,7 @@ pub fn arrived(why: &Why, reasons: &Reasons, out: &mut Painted) {
             ..
         }] => out.line(format!("{comes} by one arrow, from {}.", why.facts.name(*from))),
         _ => {
-            let start = if why.facts.is_entry(why.node) {
+            let start = if why.facts.is_entry(why.meeting) {
                 " from the start and"
             } else {
                 ""

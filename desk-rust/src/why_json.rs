@@ -16,6 +16,8 @@ pub fn json(why: &Why) -> Value {
     ];
     fields.extend(why.facts.full_json(why.node));
     fields.push(("arrows_from_unreached", why.facts.briefs_json(&why.unreached_sources())));
+    let through = (why.meeting != why.node).then(|| why.facts.brief_json(why.meeting));
+    fields.push(("through", through.into()));
     fields.push(("touches", list(why.touches.iter().map(|touch| touch_json(why, touch)))));
     Value::Object(fields)
 }

@@ -14,6 +14,11 @@ pub fn touched_since(facts: &Facts, touch: Touch, since: &Since, out: &mut Paint
         Start::Empty => "the cache is empty at the start",
         Start::Unknown => "what the cache holds at the start is unknown",
     };
+    let then = if since.last.is_empty() {
+        "Since the start"
+    } else {
+        "Since then"
+    };
     if since.last.is_empty() {
         out.line(format!("No walk has touched it before; {start}."));
     } else {
@@ -30,12 +35,12 @@ pub fn touched_since(facts: &Facts, touch: Touch, since: &Since, out: &mut Paint
         counted(facts.known.header.ways, "way")
     );
     match since.others.len() {
-        0 => return out.line(format!("Since then no other block of set {} is touched.", touch.set)),
+        0 => return out.line(format!("{then} no other block of set {} is touched.", touch.set)),
         1 => out.line(format!(
-            "Since then 1 other block of {set}, is touched on one walk or another:"
+            "{then} 1 other block of {set}, is touched on one walk or another:"
         )),
         others => out.line(format!(
-            "Since then {others} other blocks of {set}, are touched on one walk or another:"
+            "{then} {others} other blocks of {set}, are touched on one walk or another:"
         )),
     }
     let mut table = Table::new([("", Side::Left), ("", Side::Left)]);

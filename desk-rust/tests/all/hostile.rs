@@ -11,7 +11,7 @@ const MILLION: usize = 1_000_000;
 pub const MOST: usize = 4 << 20;
 
 /// What one text may take, however it is compiled and whatever else the machine does.
-const SOON: Duration = Duration::from_secs(10);
+const SOON: Duration = Duration::from_secs(30);
 
 /// A text that is answered, and to which lines can be added.
 pub const HEAD: &str = "cache line 16 sets 8 ways 2 start unknown\nentry a\na: read 0x00\n";

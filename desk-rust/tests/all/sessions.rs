@@ -26,7 +26,7 @@ fn shown(place: &Place, command: &str) -> String {
             "{command}: its last line is not ended"
         );
     }
-    if command.contains("--json") && !command.contains('|') {
+    if command.contains("--json") && !command.contains('|') && !command.contains(" -- ") {
         read(&said.out);
     }
     format!("$ {command}\n{}{}{status}", said.out, said.err)

@@ -20,8 +20,8 @@ fn leads_back(facts: &Facts, node: usize) -> bool {
     false
 }
 
-/// The nodes that are to have two visits and more, and that no walk comes to twice. Totals hold of the walks that keep to the visits, and here
-/// there is none: mostly an arrow back is missing.
+/// The nodes that are to have two visits and more, and that no walk comes to twice. Mostly an arrow back is missing; a part of a chart that was
+/// cut is come to again and again.
 pub fn never_again(facts: &Facts) -> Vec<usize> {
     let twice = |node: &usize| facts.node(*node).visits.is_some_and(|visits| visits.floor > 1);
     let nodes = 0..facts.known.nodes.len();

@@ -2,7 +2,7 @@
 
 use crate::lexer::{Kind, Line, Token};
 use crate::near::nearest;
-use crate::number::{number, told, Placed};
+use crate::number::{address, number, told, Placed};
 use crate::problem::{is_unseen, Problem};
 use crate::source::Span;
 
@@ -49,6 +49,14 @@ pub fn a_number(line: &mut Line, may: &str) -> Result<Placed<u64>, Problem> {
     let token = line.take();
     match token.kind {
         Kind::Number => number(token),
+        _ => Err(unexpected(token, may, without_sign(token))),
+    }
+}
+
+pub fn an_address(line: &mut Line, may: &str) -> Result<Placed<u64>, Problem> {
+    let token = line.take();
+    match token.kind {
+        Kind::Number => address(token),
         _ => Err(unexpected(token, may, without_sign(token))),
     }
 }

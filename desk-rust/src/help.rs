@@ -9,7 +9,7 @@ which cannot be told.
     ./desk new > mine.txt                       a chart in words to begin with
     ./desk report mine.txt                      each node with its block, set and class, and the map of sets
     ./desk totals mine.txt                      two bounds on what the references cost, and each node's share of them
-    ./desk why mine.txt NODE                    why a node is called a miss, or cannot be told
+    ./desk why mine.txt NODE                    why a node has its class
     ./desk chart mine.txt -o mine.chart         the chart in bytes, for the proved program and for C
     ./desk text mine.chart                      a chart of bytes in words
     ./desk refusal 9                            what a refusal means, and what to do

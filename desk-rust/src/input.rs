@@ -68,9 +68,10 @@ impl Input {
         self.bytes.first() == Some(&EDITION)
     }
 
-    /// Whether it can be a text: no chart is without a byte 0.
+    /// Whether it is a text, and not a damaged chart: no chart is without a byte 0.
     pub fn is_text(&self) -> bool {
-        !self.bytes.is_empty() && !self.bytes.contains(&0) && std::str::from_utf8(&self.bytes).is_ok()
+        let can_be = !self.is_chart() && !self.bytes.is_empty() && !self.bytes.contains(&0);
+        can_be && std::str::from_utf8(&self.bytes).is_ok()
     }
 
     /// The chart, made from its text if it is one.

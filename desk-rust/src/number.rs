@@ -69,6 +69,30 @@ pub fn number(token: Token) -> Result<Placed<u64>, Problem> {
     })
 }
 
+/// As many decimal digits has no address that is not meant as hexadecimal, or very seldom.
+const OF_A_MAP_FILE: usize = 7;
+
+/// The address that a token of digits is. Map files and disassemblies print hexadecimal digits without 0x: decimal ones that are as many are
+/// not taken for an address without a word.
+pub fn address(token: Token) -> Result<Placed<u64>, Problem> {
+    let digits = token.text.replace('_', "");
+    let plain = digits.trim_start_matches('0');
+    let alike = digits.len() >= OF_A_MAP_FILE && digits.bytes().all(|digit| digit.is_ascii_digit());
+    match plain.parse::<u64>() {
+        Ok(value) if alike => Err(Problem {
+            code: "address-in-decimal",
+            span: token.span,
+            found: format!(
+                "'{}' is decimal here, and looks like an address of a map file",
+                told(token.text)
+            ),
+            may: "an address, hexadecimal after 0x".into(),
+            mend: Some(format!("write 0x{plain}, or 0x{value:X} if it is meant as decimal")),
+        }),
+        _ => number(token),
+    }
+}
+
 /// What may be meant by what is no number: hexadecimal digits without their 0x, or with an h behind them.
 fn meant(text: &str) -> Option<String> {
     if text.starts_with("0b") || text.starts_with("0o") {

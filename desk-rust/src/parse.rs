@@ -1,7 +1,7 @@
 //! From a text to a draft. A line has one fault at most told of it; the next line is read whatever stood in this one.
 
 use crate::draft::{Cache, Draft, Name};
-use crate::expect::{a_name, a_number, named, the_end, unexpected};
+use crate::expect::{a_name, an_address, named, the_end, unexpected};
 use crate::lexer::{Kind, Line, Token};
 use crate::near::nearest;
 use crate::number::told;
@@ -138,7 +138,7 @@ fn address<'a>(draft: &mut Draft<'a>, rest: &mut Line<'a>) -> Result<(), Problem
         let mend = format!("write 'at {} = ADDRESS'", told(name.value));
         return Err(unexpected(sign, "'='", Some(mend)));
     }
-    let value = a_number(rest, "an address as a number, as 0x20000080")?;
+    let value = an_address(rest, "an address as a number, as 0x20000080")?;
     if u32::try_from(value.value).is_err() {
         return Err(Problem {
             code: "number-past-its-width",

@@ -3,7 +3,7 @@
 use crate::draft::{Base, Draft, Name, Node, Reference, VisitsSaid};
 use crate::expect::{a_name, a_number, a_short_number, across, unexpected, unexpected_word};
 use crate::lexer::{Kind, Line, Token};
-use crate::number::{number, told, Placed};
+use crate::number::{address, told, Placed};
 use crate::parse::{twice, LINES};
 use crate::problem::Problem;
 use crate::source::Span;
@@ -70,6 +70,23 @@ fn not_doing(name: Name, word: Token) -> Problem {
     Problem { mend, ..problem }
 }
 
+/// What may be meant by a sign behind an address.
+fn offset_meant(said: &Node, token: Token) -> Option<String> {
+    let behind = matches!(
+        &said.reference,
+        Some(Reference {
+            offset: None,
+            size: None,
+            ..
+        })
+    );
+    match token.text {
+        "[" if behind => Some("write '+' and how many bytes further on, as 'NAME + 32'".into()),
+        "-" if behind => Some("there is no '-': name the lower address; or write '->', if an arrow is meant".into()),
+        _ => None,
+    }
+}
+
 /// A sign that may be meant for an arrow.
 fn arrow_meant(token: Token) -> Option<String> {
     let is_meant = matches!(token.text, "-" | "=" | ">" | "→" | "⇒");
@@ -83,7 +100,7 @@ fn reference<'a>(write: bool, rest: &mut Line<'a>) -> Result<Reference<'a>, Prob
             value: token.text,
             span: token.span,
         }),
-        Kind::Number => Base::Number(number(token)?.value),
+        Kind::Number => Base::Number(address(token)?.value),
         _ => return Err(unexpected(token, ADDRESS_MAY, None)),
     };
     let mut span = token.span;
@@ -158,7 +175,7 @@ fn astray(said: &Node, token: Token) -> Problem {
             Some(format!("write 'size {}', if it is the size", told(text)))
         }
         _ if problem.mend.is_some() => problem.mend,
-        _ if !first => arrow_meant(token),
+        _ if !first => offset_meant(said, token).or_else(|| arrow_meant(token)),
         _ if second => None,
         (Kind::Arrow, _) => Some("write ',' before the second target".to_string()),
         (Kind::Word, "and" | "or") => Some("write ','".to_string()),

@@ -12,6 +12,7 @@ use crate::texted::texted;
 use crate::totals::totals;
 use crate::trouble::Trouble;
 use crate::why::why;
+use crate::words::counted;
 use std::borrow::Cow;
 use std::ffi::OsStr;
 use std::fs;
@@ -88,10 +89,7 @@ fn chart(call: &Call, input: Input) -> Result<Output, Trouble> {
     write(call, output, &known.chart)?;
     let output = output.to_string_lossy();
     let bytes = known.chart.len();
-    let words = format!(
-        "{output}: {bytes} bytes, {}\n",
-        crate::words::counted(known.nodes.len(), "node")
-    );
+    let words = format!("{output}: {bytes} bytes, {}\n", counted(known.nodes.len(), "node"));
     let json = object([
         ("file", known.file.as_str().into()),
         ("written", output.as_ref().into()),

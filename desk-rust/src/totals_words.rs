@@ -26,7 +26,7 @@ pub fn words(totals: &Totals) -> Painted {
         let names = totals.facts.names(&totals.never_again, "and");
         out.line("");
         out.line(format!(
-            "No walk comes twice to {names}, and the visits say more. Is an arrow back missing? Else the totals are of no walk."
+            "No walk comes twice to {names}, and the visits say more: is an arrow back missing, or is this a part of a chart?"
         ));
     }
     out

@@ -101,6 +101,19 @@ fn explained(why: &Why, reasons: &Reasons, out: &mut Painted) {
     arrived(why, reasons, out);
     out.line("");
     touched_since(why.facts, reasons.touch, &reasons.since, out);
+    if reasons.class == Class::Unsure && by_some_way(why, reasons) {
+        out.line("");
+        out.line("By one way it is always there. In a loop, peeling the first turn off may tell the ways apart: docs/FROM-C.md.");
+    }
+}
+
+/// Whether the block is always there where a walk comes by one way.
+fn by_some_way(why: &Why, reasons: &Reasons) -> bool {
+    let ways = why.facts.known.header.ways;
+    let arrivals = why.arrivals.iter().flatten();
+    arrivals
+        .map(|arrival| arrival.ages[reasons.place])
+        .any(|ages| usize::from(ages.must) < ways)
 }
 
 /// Two ages, each with what it means in a set of so many ways.

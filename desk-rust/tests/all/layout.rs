@@ -5,6 +5,15 @@ use charts::random::Random;
 /// A line, piece by piece.
 pub type Line = Vec<String>;
 
+/// An address in one of the ways that a text can have it.
+pub fn address(random: &mut Random, address: u64) -> String {
+    // as many decimal digits are a fault
+    match address < 1_000_000 {
+        true => number(random, address),
+        false => format!("0x{address:x}"),
+    }
+}
+
 /// A number, decimal or hexadecimal, in small or large digits, with or without `_` and leading zeros.
 pub fn number(random: &mut Random, number: u64) -> String {
     let (before, digits) = match random.below(5) {

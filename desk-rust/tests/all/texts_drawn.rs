@@ -1,6 +1,6 @@
 //! Texts, drawn: one and the same chart said in every style that the grammar has.
 
-use crate::layout::{laid_out, number, Line};
+use crate::layout::{address as written, laid_out, number, Line};
 use crate::names_drawn::{names, stem};
 use charts::random::Random;
 use charts::{Chart, Header, Record};
@@ -125,7 +125,7 @@ impl Said {
         let named = random.once_in(2);
         line.push(match named {
             true => self.name_for(random, address, &mut base),
-            false => number(random, base),
+            false => written(random, base),
         });
         if base != address || random.once_in(4) {
             line.extend(["+".into(), number(random, address - base)]);
@@ -165,7 +165,7 @@ impl Said {
             [&["cost".into()], &both.concat()[..]].concat()
         }));
         for (name, address) in &self.addresses {
-            others.push(vec!["at".into(), name.clone(), "=".into(), number(random, *address)]);
+            others.push(vec!["at".into(), name.clone(), "=".into(), written(random, *address)]);
         }
         for line in others {
             let place = random.below(self.lines.len() as u64 + 1) as usize;

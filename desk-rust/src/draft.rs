@@ -26,8 +26,8 @@ pub struct Draft<'a> {
 }
 
 /// The line of the cache: what it says of each, if it says something that can be read.
+#[derive(Default)]
 pub struct Cache {
-    pub span: Span,
     pub line: Option<Placed<u64>>,
     pub sets: Option<Placed<u64>>,
     pub ways: Option<Placed<u64>>,
@@ -66,19 +66,6 @@ pub struct VisitsSaid {
     pub span: Span,
     pub floor: u16,
     pub ceiling: u16,
-}
-
-impl Cache {
-    /// A line of which nothing has been read yet.
-    pub fn unsaid(span: Span) -> Cache {
-        Cache {
-            span,
-            line: None,
-            sets: None,
-            ways: None,
-            start: None,
-        }
-    }
 }
 
 impl Draft<'_> {

@@ -36,8 +36,6 @@ pub struct Text {
     pub source: Source,
     /// The numbers of the line of costs.
     pub costs: Option<Span>,
-    /// Of each node, its name.
-    pub names: Vec<Span>,
     /// Of each node, its visits.
     pub visits: Vec<Option<Span>>,
 }

@@ -13,6 +13,7 @@ pub mod answer;
 pub mod args;
 pub mod arriving;
 pub mod asked;
+pub mod astray;
 pub mod cache;
 pub mod changed;
 pub mod draft;

@@ -81,7 +81,6 @@ fn said(source: &Source, draft: &Draft) -> Text {
     Text {
         source: source.clone(),
         costs: draft.costs.as_ref().map(|line| line.span),
-        names: draft.nodes.iter().map(|node| node.name.span).collect(),
         visits: draft.nodes.iter().map(visits).collect(),
     }
 }

@@ -58,7 +58,7 @@ fn line<'a>(draft: &mut Draft<'a>, mut rest: Line<'a>) -> Result<(), Problem> {
             let meant = meant(token);
             match meant {
                 // it is there, if mistyped: it is not to be told as missing too
-                Some("cache") => drop(draft.cache.get_or_insert(Cache::unsaid(token.span))),
+                Some("cache") => drop(draft.cache.get_or_insert(Cache::default())),
                 Some("entry") => drop(draft.entry.get_or_insert(None)),
                 _ => {}
             }

@@ -18,10 +18,9 @@ const COSTS_MAY: &str = "'hit' and a number, and 'miss' and a number";
 const START_MAY: &str = "'unknown' (the cache may hold anything at the start) or 'empty' (it holds nothing)";
 
 pub fn cache(draft: &mut Draft, span: Span, rest: &mut Line) -> Result<(), Problem> {
-    let mut said = Cache::unsaid(span);
+    let mut said = Cache::default();
     let second = draft.cache.is_some();
     let read = each(rest, |word, rest| shape(&mut said, word, rest));
-    said.span = across(span, rest.peek().span);
     let missing = missing(&said, rest.peek().span);
     draft.cache.get_or_insert(said);
     read?;
@@ -44,14 +43,7 @@ pub fn costs(draft: &mut Draft, span: Span, rest: &mut Line) -> Result<(), Probl
     let end = rest.peek();
     let (Some(hit), Some(miss)) = (hit, miss) else {
         let word = if hit.is_none() { "hit" } else { "miss" };
-        return Err(not_whole(
-            "costs-not-whole",
-            end.span,
-            "the costs are",
-            word,
-            COSTS_MAY,
-            None,
-        ));
+        return Err(not_whole("costs-not-whole", end.span, "the costs are", word, None));
     };
     let costs = CostLine {
         span: across(span, end.span),
@@ -137,17 +129,19 @@ fn missing(said: &Cache, end: Span) -> Option<Problem> {
         end,
         "the cache is",
         word,
-        SHAPE_MAY,
         Some(mend.into()),
     ))
 }
 
-fn not_whole(code: &'static str, span: Span, what: &str, word: &str, may: &str, mend: Option<String>) -> Problem {
+fn not_whole(code: &'static str, span: Span, what: &str, word: &str, mend: Option<String>) -> Problem {
     Problem {
         code,
         span,
         found: format!("{what} not told whole: '{word}' is missing"),
-        may: may.into(),
+        may: match word {
+            "start" => "'start' and 'unknown' or 'empty'".into(),
+            word => format!("'{word}' and a number"),
+        },
         mend,
     }
 }

@@ -78,7 +78,7 @@ fn reference<'a>(write: bool, rest: &mut Line<'a>) -> Result<Reference<'a>, Prob
     let mut size = None;
     if rest.peek().text == "size" {
         rest.take();
-        size = Some(a_number(rest, "how many bytes it reads or writes: 1, 2 or 4")?);
+        size = Some(a_number(rest, "how many bytes it reads or writes, a number")?);
     }
     Ok(Reference {
         write,

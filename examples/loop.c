@@ -24,8 +24,8 @@ static uint8_t classes[VEILBUZZ_MOST_CLASSES];
 static uint64_t header[VEILBUZZ_HEADER_LENGTH];
 static uint64_t answer[VEILBUZZ_LONGEST_ANSWER];
 
-/* The words in the order of the numbers VEILBUZZ_CLASS_UNREACHED to VEILBUZZ_CLASS_NONE. */
-static const char *const words[] = {"unreached", "always hits", "always misses", "cannot be told", "none"};
+/* The words in the order of the numbers VEILBUZZ_CLASS_UNREACHED to VEILBUZZ_CLASS_KEPT. */
+static const char *const words[] = {"unreached", "always hits", "always misses", "cannot be told", "none", "stays once loaded"};
 
 static unsigned long long number(const uint64_t *list, int place) {
     return (unsigned long long)list[place];

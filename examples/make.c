@@ -26,8 +26,8 @@ static uint8_t marks[VEILBUZZ_MOST_NODES];
 static uint8_t classes[VEILBUZZ_MOST_CLASSES];
 static uint64_t answer[VEILBUZZ_LONGEST_ANSWER];
 
-/* The words in the order of the numbers VEILBUZZ_CLASS_UNREACHED to VEILBUZZ_CLASS_NONE. */
-static const char *const words[] = {"unreached", "hit", "miss", "unsure", "none"};
+/* The words in the order of the numbers VEILBUZZ_CLASS_UNREACHED to VEILBUZZ_CLASS_KEPT. */
+static const char *const words[] = {"unreached", "hit", "miss", "unsure", "none", "kept"};
 
 static unsigned long long told(int place) {
     return (unsigned long long)answer[place];

@@ -1,4 +1,4 @@
-/* Veilbuzz for C: does a memory reference always hit the cache, always miss, or can it not be told?
+/* Veilbuzz for C: does a memory reference always hit the cache, always miss, miss once at the most, or can it not be told?
  *
  * Link with the archive that tests/archive makes:  cc -Iinclude mine.c "$(tests/archive)/libboundary.a"
  * examples/loop.c and examples/make.c are whole programs; docs/HEX.md has the chart's bits, docs/REFUSALS.md each
@@ -131,13 +131,18 @@ enum {
 
 /* What `classes` says of each touch that a node can make: the first that applies of unreached, where the node's mark is 0; none, where it
  * makes no such touch, so for both at a bare step and for the second at a reference within one line; hit, where the block's must age is
- * below A; miss, where its may age is A; unsure. The ages are those just before the touch: on arrival, and for the second after the first. */
+ * below A; miss, where its may age is A; kept, where fewer than A other blocks of its cache set are touched after it and before this touch,
+ * those of all walks that have touched it counted together (rule 16.1); unsure. What counts is what is so just before the touch: on
+ * arrival, and for the second after the first.
+ * Of all touches of one block that are called kept, at any nodes, all but at most one on the whole of a walk hit: the block may still have to
+ * be loaded, and once it is, it stays. */
 enum {
     VEILBUZZ_CLASS_UNREACHED = 0, /* no walk comes here */
     VEILBUZZ_CLASS_HIT = 1,       /* the touch always hits */
     VEILBUZZ_CLASS_MISS = 2,      /* the touch always misses */
     VEILBUZZ_CLASS_UNSURE = 3,    /* it cannot be told */
-    VEILBUZZ_CLASS_NONE = 4       /* there is no such touch */
+    VEILBUZZ_CLASS_NONE = 4,      /* there is no such touch */
+    VEILBUZZ_CLASS_KEPT = 5       /* the touch hits, but for one at most of those of its block that are called so */
 };
 
 /* The refusals, rules 11.1 to 11.17 of docs/RULES.md, looked for one after another as they stand here; what is found first is given. Only
@@ -236,12 +241,14 @@ uint64_t veilbuzz_check(const uint8_t *chart, size_t chart_length,
                         const uint8_t *marks, size_t marks_length,
                         uint64_t *answer, size_t answer_length);
 
-/* The two totals of a table that passes: refusals 1 to 11 and 13 to 17. They are sums over the touches of marked nodes (rules 10.2 and
- * 10.3): the high one of ceilings, each times `hit` where the touch's class is hit and times `miss` where it is not; the low one of floors,
- * each times `miss` where the class is miss and times `hit` where it is not. So take a walk from the chart's entry and start that comes to
- * each node no fewer times than its floor and no more than its ceiling, and pays for each touch, `hit` if it hits and `miss` if it misses,
- * and nothing at a bare step: what it costs lies between the low and the high total, both included. The table is read as veilbuzz_check
- * reads it. It writes `answer` alone. */
+/* The two totals of a table that passes: refusals 1 to 11 and 13 to 17. They are sums over the touches of marked nodes (rules 10.2 to
+ * 10.4): the high one of ceilings, each times `hit` where the touch's class is hit or kept and times `miss` where it is another; and to it
+ * comes `miss` less `hit`, once for each block that is touched at a node with a ceiling above 0 where that touch is called kept. The low
+ * one is of floors, each times `miss` where the class is miss and times `hit` where it is not. So take a walk from the chart's entry and
+ * start that comes to each node no fewer times than its floor and no more than its ceiling, and pays for each touch, `hit` if it hits and
+ * `miss` if it misses, and nothing at a bare step: what it costs lies between the low and the high total, both included. That is of one
+ * walk: where a part of a program has a chart of its own and is come to several times, each time is a walk. The table is read as
+ * veilbuzz_check reads it. It writes `answer` alone. */
 uint64_t veilbuzz_total(const uint8_t *chart, size_t chart_length,
                         const uint8_t *must, size_t must_length,
                         const uint8_t *may, size_t may_length,

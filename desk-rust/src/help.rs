@@ -3,8 +3,8 @@
 use crate::args::Command;
 
 const ALL: &str = "\
-Reads a chart of a program, in words or in bytes, and says which of its memory references hit the cache, which miss, and
-which cannot be told.
+Reads a chart of a program, in words or in bytes, and says which of its memory references hit the cache, which miss, which
+hit once their line is loaded, and which cannot be told.
 
     ./desk new > mine.txt                       a chart in words to begin with
     ./desk report mine.txt                      each node with its block, set and class, and the map of sets
@@ -28,7 +28,8 @@ The cache in words; then each node with what it does, where it leads, its block 
 
     hit         on every walk, each time, the block is in the cache
     miss        on every walk, each time, it is not
-    unsure      neither can be told; './desk why FILE NODE' says why
+    kept        once the block is loaded it stays: on any walk one of its kept touches misses at the most
+    unsure      none of these can be told; './desk why FILE NODE' says why
     unreached   no walk comes there
 
 Then how many there are of each, and the map of sets: which blocks compete for the ways of a set. A set with more blocks
@@ -42,7 +43,9 @@ const TOTALS: &str = "\
 
 Two bounds: the references of a walk cost no less than the low total and no more than the high one, if each node is visited
 as often as the text says; what instructions take beside is not counted. Then what each node adds, the largest share of the
-high total first. Costs are those of the line 'cost', unless --hit or --miss give others. Each node needs its visits.
+high total first. A kept touch adds a hit for each visit; what the first load of its block costs more than a hit has a line
+of its own, once for each block. Costs are those of the line 'cost', unless --hit or --miss give others. Each node needs its
+visits.
 
     ./desk totals charts/winch-as-built.txt
     ./desk totals charts/winch-as-built.txt --miss 20
@@ -52,7 +55,8 @@ const WHY: &str = "\
 ./desk why FILE NODE [--json]
 
 Why a node is called what it is called: the must and the may age on arrival, the arrows that they came by, and the blocks of
-its set that are touched since its block was. In a chart of bytes the nodes are called n0, n1 and so on.
+its set that are touched since its block was: if they are fewer than the ways, they cannot push it out. In a chart of bytes
+the nodes are called n0, n1 and so on.
 
     ./desk why charts/winch-as-built.txt depth
 ";

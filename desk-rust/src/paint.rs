@@ -7,6 +7,7 @@ pub enum Colour {
     Red,
     Yellow,
     Green,
+    Cyan,
     Dim,
     Bold,
 }
@@ -20,6 +21,7 @@ impl Colour {
             Colour::Red => 31,
             Colour::Green => 32,
             Colour::Yellow => 33,
+            Colour::Cyan => 36,
         }
     }
 
@@ -28,6 +30,7 @@ impl Colour {
         match class {
             Class::Hit => Some(Colour::Green),
             Class::Miss => Some(Colour::Red),
+            Class::Kept => Some(Colour::Cyan),
             Class::Unsure => Some(Colour::Yellow),
             Class::Unreached => Some(Colour::Dim),
             Class::None => None,

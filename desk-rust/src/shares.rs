@@ -1,31 +1,54 @@
 //! What each node adds to the two totals.
 
+use crate::facts::Facts;
 use crate::given::Given;
-use veilbuzz::{total, Bounds, Refusal, Table, Totals};
+use crate::loads::{difference, kept, Load};
+use std::collections::HashMap;
+use veilbuzz::{total, Bounds, Refusal, Totals};
 
-/// Of each node in the chart's order: the totals where no walk comes to any other node.
-pub fn shares(chart: &[u8], table: Table, given: &Given) -> Result<Vec<Totals>, Refusal> {
+/// Of each node in the chart's order: the totals where no walk comes to any other node, less the first loads that are in them, since these are
+/// shares of their own. What is left is the same for nodes with the same classes and visits, and is asked for once.
+pub fn shares(facts: &Facts, given: &Given) -> Result<Vec<Totals>, Refusal> {
     let Bounds { floors, ceilings } = given.bounds();
-    let nobody = vec![0; floors.len()];
-    let alone = |visits: &[u16], node: usize| {
-        let mut alone = nobody.clone();
+    let mut asked = HashMap::new();
+    let mut shares = vec![];
+    for node in 0..floors.len() {
+        let classes = facts.analysis.classes[node].map(|class| class as u8);
+        let alike = (classes, floors[node], ceilings[node]);
+        let share = match asked.get(&alike) {
+            Some(share) => *share,
+            None => share(facts, given, node)?,
+        };
+        asked.insert(alike, share);
+        shares.push(share);
+    }
+    Ok(shares)
+}
+
+fn share(facts: &Facts, given: &Given, node: usize) -> Result<Totals, Refusal> {
+    let Bounds { floors, ceilings } = given.bounds();
+    let alone = |visits: &[u16]| {
+        let mut alone = vec![0; visits.len()];
         alone[node] = visits[node];
         alone
     };
-    let share = |node| {
-        let bounds = Bounds {
-            floors: &alone(floors, node),
-            ceilings: &alone(ceilings, node),
-        };
-        total(chart, table, given.costs, bounds)
+    let bounds = Bounds {
+        floors: &alone(floors),
+        ceilings: &alone(ceilings),
     };
-    (0..floors.len()).map(share).collect()
+    let Totals { low, high } = total(&facts.known.chart, facts.analysis.table(), given.costs, bounds)?;
+    let loads = difference(given) * kept(facts, given, node).count() as u64;
+    Ok(Totals {
+        low,
+        high: high.saturating_sub(loads),
+    })
 }
 
-pub fn sum(shares: &[Totals]) -> Totals {
+pub fn sum(shares: &[Totals], loads: &[Load]) -> Totals {
+    let loads: u64 = loads.iter().map(|load| load.adds).sum();
     Totals {
         low: shares.iter().map(|share| share.low).sum(),
-        high: shares.iter().map(|share| share.high).sum(),
+        high: shares.iter().map(|share| share.high).sum::<u64>() + loads,
     }
 }
 

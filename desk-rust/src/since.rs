@@ -1,9 +1,13 @@
 //! What walks have touched since a block was touched last: a search along the arrows, backwards from a touch.
 
+use crate::before::Before;
 use crate::facts::Facts;
 use crate::touches::Touch;
 use std::collections::{BTreeMap, BTreeSet};
 use std::mem::replace;
+
+/// Blocks, and of each the nodes that touch it.
+pub type Others = BTreeMap<u32, BTreeSet<usize>>;
 
 #[derive(Default)]
 pub struct Since {
@@ -11,22 +15,27 @@ pub struct Since {
     pub last: BTreeSet<usize>,
     /// Whether a walk can come from the start without touching it.
     pub from_start: bool,
-    /// The other blocks of its set that are touched on the way, and the nodes that touch them.
-    pub others: BTreeMap<u32, BTreeSet<usize>>,
+    /// The other blocks of its set that are touched since, on walks that have touched it: its set since (rule 16.1).
+    pub others: Others,
+    /// The other blocks of its set that are touched on walks that come from the start without touching it.
+    pub others_from_start: Others,
 }
 
 /// Of one of the touches of a node that a walk comes to.
 pub fn since(facts: &Facts, node: usize, place: usize) -> Since {
     let touch = facts.touches[node][place];
-    let mut since = Since::default();
-    since.meets(touch, node, &facts.touches[node][..place]);
+    let before = Before::of(facts, touch.block);
+    let mut since = Since {
+        from_start: before.without[node],
+        ..Since::default()
+    };
+    since.meets(touch, &before, node, &facts.touches[node][..place]);
     let mut seen = vec![false; facts.known.nodes.len()];
     let mut waiting = vec![node];
     while let Some(node) = waiting.pop() {
-        since.from_start |= facts.is_entry(node);
         for from in facts.sources(node).filter(|from| facts.reached(*from)) {
             let new = !replace(&mut seen[from], true);
-            if new && !since.meets(touch, from, &facts.touches[from]) {
+            if new && !since.meets(touch, &before, from, &facts.touches[from]) {
                 waiting.push(from);
             }
         }
@@ -36,16 +45,20 @@ pub fn since(facts: &Facts, node: usize, place: usize) -> Since {
 
 impl Since {
     /// Goes back over touches of a node, from the last of them on: whether the block itself is met, behind which nothing counts.
-    fn meets(&mut self, wanted: Touch, node: usize, touches: &[Touch]) -> bool {
-        for touch in touches.iter().rev() {
-            if touch.block == wanted.block {
-                self.last.insert(node);
-                return true;
-            }
-            if touch.set == wanted.set {
+    fn meets(&mut self, wanted: Touch, before: &Before, node: usize, touches: &[Touch]) -> bool {
+        let own = touches.iter().rposition(|touch| touch.block == wanted.block);
+        let behind = &touches[own.map_or(0, |own| own + 1)..];
+        for touch in behind.iter().filter(|touch| touch.set == wanted.set) {
+            if own.is_some() || before.with[node] {
                 self.others.entry(touch.block).or_default().insert(node);
             }
+            if own.is_none() && before.without[node] {
+                self.others_from_start.entry(touch.block).or_default().insert(node);
+            }
         }
-        false
+        if own.is_some() {
+            self.last.insert(node);
+        }
+        own.is_some()
     }
 }

@@ -8,6 +8,7 @@ use veilbuzz::{Class, TOUCHES};
 pub struct Summary {
     hit: usize,
     miss: usize,
+    kept: usize,
     unsure: usize,
     /// Bare steps that a walk comes to: their first touch is none.
     steps: usize,
@@ -21,6 +22,7 @@ impl Summary {
         Summary {
             hit: touches(Class::Hit),
             miss: touches(Class::Miss),
+            kept: touches(Class::Kept),
             unsure: touches(Class::Unsure),
             steps: nodes(Class::None),
             unreached: nodes(Class::Unreached),
@@ -31,6 +33,7 @@ impl Summary {
         let classes = [
             (Class::Hit, self.hit),
             (Class::Miss, self.miss),
+            (Class::Kept, self.kept),
             (Class::Unsure, self.unsure),
         ];
         out.piece("touches", Some(Colour::Bold));
@@ -49,6 +52,7 @@ impl Summary {
         object([
             ("hit", self.hit.into()),
             ("miss", self.miss.into()),
+            ("kept", self.kept.into()),
             ("unsure", self.unsure.into()),
             ("bare_steps", self.steps.into()),
             ("unreached_nodes", self.unreached.into()),

@@ -1,10 +1,11 @@
-//! `./desk totals`: the low and the high total, and what each node adds to them.
+//! `./desk totals`: the low and the high total, and what each node and each first load adds to them.
 
 use crate::again::never_again;
 use crate::answer::Answer;
 use crate::facts::Facts;
 use crate::given::Given;
 use crate::known::Known;
+use crate::loads::{loads, Load};
 use crate::misgiven::misgiven;
 use crate::shares::{shares, sum, thousandths};
 use crate::totals_json::json;
@@ -20,6 +21,8 @@ pub struct Totals<'a> {
     pub sum: veilbuzz::Totals,
     /// The largest share of the high total first.
     pub shares: Vec<Share>,
+    /// In the order of the blocks.
+    pub loads: Vec<Load>,
     /// The nodes whose visits no walk can make.
     pub never_again: Vec<usize>,
 }
@@ -36,11 +39,11 @@ pub struct Share {
 pub fn totals(known: &Known, hit: Option<u16>, miss: Option<u16>) -> Result<Answer, Trouble> {
     let given = Given::of(known, hit, miss)?;
     let facts = Facts::of(known)?;
-    let table = facts.analysis.table();
     let refused = |refusal| misgiven(known, &given, refusal);
-    let totals = total(&known.chart, table, given.costs, given.bounds()).map_err(refused)?;
-    let each = shares(&known.chart, table, &given).map_err(refused)?;
-    let sum = sum(&each);
+    let totals = total(&known.chart, facts.analysis.table(), given.costs, given.bounds()).map_err(refused)?;
+    let each = shares(&facts, &given).map_err(refused)?;
+    let loads = loads(&facts, &given);
+    let sum = sum(&each, &loads);
     if sum != totals {
         return Err(apart(known, totals, sum));
     }
@@ -57,6 +60,7 @@ pub fn totals(known: &Known, hit: Option<u16>, miss: Option<u16>) -> Result<Answ
         totals,
         sum,
         shares,
+        loads,
         never_again: never_again(&facts),
     };
     Ok(Answer::new(words(&totals), json(&totals)))
@@ -66,7 +70,7 @@ pub fn totals(known: &Known, hit: Option<u16>, miss: Option<u16>) -> Result<Answ
 fn apart(known: &Known, totals: veilbuzz::Totals, sum: veilbuzz::Totals) -> Trouble {
     Trouble::Unanswered {
         what: format!(
-            "{}: the totals are {} and {}, and what the nodes add comes to {} and {}",
+            "{}: the totals are {} and {}, and the shares come to {} and {}",
             known.file, totals.low, totals.high, sum.low, sum.high
         ),
         mend: "this must not be: rely on neither, and keep the chart, for it shows a fault of the desk".into(),

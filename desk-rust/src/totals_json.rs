@@ -3,6 +3,8 @@
 use crate::cache::Cache;
 use crate::json::{list, object, Value};
 use crate::known::Visits;
+use crate::loads::Load;
+use crate::shares::thousandths;
 use crate::totals::{Share, Totals};
 use veilbuzz::Costs;
 
@@ -14,6 +16,10 @@ pub fn json(totals: &Totals) -> Value {
         ("costs", costs(totals.costs)),
         ("totals", both(totals.totals)),
         ("shares", list(totals.shares.iter().map(|share| adds(totals, share)))),
+        (
+            "first_loads",
+            list(totals.loads.iter().map(|load| loaded(totals, load))),
+        ),
         ("sum_of_shares", both(totals.sum)),
         ("never_again", totals.facts.briefs_json(&totals.never_again)),
     ])
@@ -36,6 +42,17 @@ fn adds(totals: &Totals, share: &Share) -> Value {
         ("high_per_mille", share.thousandths.into()),
     ]);
     Value::Object(fields)
+}
+
+/// The first load of a block, with the nodes of its kept touches.
+fn loaded(totals: &Totals, load: &Load) -> Value {
+    object([
+        ("block", u64::from(load.of.block).into()),
+        ("set", u64::from(load.of.set).into()),
+        ("nodes", totals.facts.briefs_json(&load.nodes)),
+        ("high", load.adds.into()),
+        ("high_per_mille", thousandths(load.adds, totals.totals.high).into()),
+    ])
 }
 
 fn visits(Visits { floor, ceiling }: Visits) -> Value {

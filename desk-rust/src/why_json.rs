@@ -43,8 +43,9 @@ fn touch_json(why: &Why, reasons: &Reasons) -> Value {
             why.arrivals.as_ref().map(|all| arrows(why, all, reasons.place)).into(),
         ),
         ("last_touches", why.facts.briefs_json(&since.last)),
-        ("from_start", since.from_start.into()),
         ("others", list(since.others.iter().map(other))),
+        ("from_start", since.from_start.into()),
+        ("others_from_start", list(since.others_from_start.iter().map(other))),
     ])
 }
 

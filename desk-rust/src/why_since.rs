@@ -2,7 +2,7 @@
 
 use crate::facts::Facts;
 use crate::paint::Painted;
-use crate::since::Since;
+use crate::since::{Others, Since};
 use crate::table::{Side, Table};
 use crate::touches::Touch;
 use crate::words::{block, counted};
@@ -14,37 +14,40 @@ pub fn touched_since(facts: &Facts, touch: Touch, since: &Since, out: &mut Paint
         Start::Empty => "the cache is empty at the start",
         Start::Unknown => "what the cache holds at the start is unknown",
     };
-    let then = if since.last.is_empty() {
-        "Since the start"
-    } else {
-        "Since then"
-    };
     if since.last.is_empty() {
         out.line(format!("No walk has touched it before; {start}."));
-    } else {
-        out.line(format!("It was touched last at {}.", facts.names(&since.last, "or")));
-        if since.from_start {
-            out.line(format!(
-                "A walk can also come from the entry without touching it; {start}."
-            ));
+        return others(facts, touch, "Since the start", &since.others_from_start, out);
+    }
+    out.line(format!("It was touched last at {}.", facts.names(&since.last, "or")));
+    others(facts, touch, "Since then", &since.others, out);
+    if since.from_start {
+        out.line(format!(
+            "A walk can also come from the entry without touching it; {start}."
+        ));
+        if !since.others_from_start.is_empty() {
+            others(facts, touch, "On the way", &since.others_from_start, out);
         }
     }
+}
+
+/// Other blocks of a block's set, each with the nodes that touch it.
+fn others(facts: &Facts, touch: Touch, then: &str, others: &Others, out: &mut Painted) {
     let set = format!(
         "set {}, which has {}",
         touch.set,
         counted(facts.known.header.ways, "way")
     );
-    match since.others.len() {
+    match others.len() {
         0 => return out.line(format!("{then} no other block of set {} is touched.", touch.set)),
         1 => out.line(format!(
             "{then} 1 other block of {set}, is touched on one walk or another:"
         )),
-        others => out.line(format!(
-            "{then} {others} other blocks of {set}, are touched on one walk or another:"
+        count => out.line(format!(
+            "{then} {count} other blocks of {set}, are touched on one walk or another:"
         )),
     }
     let mut table = Table::new([("", Side::Left), ("", Side::Left)]);
-    for (other, nodes) in &since.others {
+    for (other, nodes) in others {
         table.row([block(*other).into(), format!("at {}", facts.names(nodes, "and")).into()]);
     }
     table.write(2, out);

@@ -7,6 +7,7 @@ use crate::reference::{reference, Reference};
 use crate::touches::Touch;
 use crate::why::{Reasons, Why};
 use crate::why_arrows::{arrived, no_room};
+use crate::why_kept::stays;
 use crate::why_since::touched_since;
 use crate::words::{block, counted};
 use veilbuzz::Class;
@@ -90,6 +91,9 @@ fn explained(why: &Why, reasons: &Reasons, out: &mut Painted) {
     let sentence = match reasons.class {
         Class::Hit => format!("{when} the block is always there."),
         Class::Miss => format!("{when} the block is never there."),
+        Class::Kept => {
+            format!("{when} the block may be there, and may not; on a walk that has touched it before, it is.")
+        }
         _ => format!("{when} the block may be there, and may not."),
     };
     classed(reasons.class, &sentence, out);
@@ -101,6 +105,7 @@ fn explained(why: &Why, reasons: &Reasons, out: &mut Painted) {
     arrived(why, reasons, out);
     out.line("");
     touched_since(why.facts, reasons.touch, &reasons.since, out);
+    stays(reasons, ways, out);
     if reasons.class == Class::Unsure && by_some_way(why, reasons) {
         out.line("");
         out.line("By one way it is always there. In a loop, peeling the first turn off may tell the ways apart: docs/FROM-C.md.");

@@ -71,7 +71,7 @@ static uint8_t class_of(size_t n, size_t touch) {
     return classes[VEILBUZZ_MOST_TOUCHES * n + touch];
 }
 
-/* Seven nodes: 4 misses, 5 hits, 6 has no reference, 0 loops on itself and is unsure, and no walk comes to 1, 2 and 3. */
+/* Seven nodes: 4 misses, 5 hits, 6 has no reference, 0 loops on itself and is kept, and no walk comes to 1, 2 and 3. */
 static void seven(uint64_t start) {
     head(start, 7, 4);
     node(4, 1, 0x00, 1, 5);
@@ -86,7 +86,7 @@ static void answers(void) {
     IS(analyse(7, VEILBUZZ_ENOUGH_PASSES), 0);
     IS(answer[VEILBUZZ_ANALYSE_PASSES], 3);
     IS(answer[VEILBUZZ_ANALYSE_BLOCKS], 2);
-    IS(class_of(0, 0), VEILBUZZ_CLASS_UNSURE);
+    IS(class_of(0, 0), VEILBUZZ_CLASS_KEPT);
     IS(class_of(1, 0), VEILBUZZ_CLASS_UNREACHED);
     IS(class_of(1, 1), VEILBUZZ_CLASS_UNREACHED);
     IS(class_of(4, 0), VEILBUZZ_CLASS_MISS);
@@ -98,7 +98,7 @@ static void answers(void) {
     IS(answer[VEILBUZZ_CHECK_YES], 1);
     IS(veilbuzz_total(chart, 64, must, 14, may, 14, marks, 7, 1, 10, floors, 7, ceilings, 7, answer, VEILBUZZ_LONGEST_ANSWER), 0);
     IS(answer[VEILBUZZ_TOTAL_LOW], 12);
-    IS(answer[VEILBUZZ_TOTAL_HIGH], 101);
+    IS(answer[VEILBUZZ_TOTAL_HIGH], 29);
     chart[8 * (3 + 1) + 7] = 1; /* a size at node 3, a bare step */
     IS(read_chart(7), 9);
     IS(answer[VEILBUZZ_ANSWER_NUMBER], 9);
@@ -120,7 +120,22 @@ static void headers(void) {
     IS(read_chart(7), 0);
     IS(header[VEILBUZZ_HEADER_START], VEILBUZZ_START_UNKNOWN);
     IS(analyse(7, VEILBUZZ_ENOUGH_PASSES), 0);
-    IS(class_of(4, 0), VEILBUZZ_CLASS_UNSURE); /* from one that may have the block */
+    IS(class_of(4, 0), VEILBUZZ_CLASS_KEPT); /* from one that may have the block */
+}
+
+/* Three blocks of one set, which has two ways: by node 3 the first of them is still there, by nodes 1 and 2 it is pushed out. */
+static void unsure(void) {
+    static const uint16_t floors[] = {0, 0, 0, 0}, ceilings[] = {5, 0, 0, 0};
+    head(VEILBUZZ_START_EMPTY, 4, 0);
+    node(0, 1, 0x000, 2, 1);
+    chart[8 * (0 + 1) + 7] = 3 << 4; /* the second arrow leads to 3 */
+    node(1, 1, 0x100, 1, 2);
+    node(2, 1, 0x200, 1, 0);
+    node(3, 0, 0x000, 1, 0);
+    IS(analyse(4, VEILBUZZ_ENOUGH_PASSES), 0);
+    IS(class_of(0, 0), VEILBUZZ_CLASS_UNSURE);
+    IS(veilbuzz_total(chart, 40, must, 12, may, 12, marks, 4, 1, 10, floors, 4, ceilings, 4, answer, VEILBUZZ_LONGEST_ANSWER), 0);
+    IS(answer[VEILBUZZ_TOTAL_HIGH], 50);
 }
 
 /* A node with six different fields, a write, a bare step, and one that there is not. */
@@ -305,6 +320,7 @@ static void same(char **numbers) {
 int main(int count, char **numbers) {
     answers();
     headers();
+    unsure();
     nodes();
     sizes();
     there_and_back();

@@ -33,7 +33,7 @@ fn main() -> Result<(), Refusal> {
     );
     for (node, both) in classes.chunks(TOUCHES).enumerate() {
         let [first, second] =
-            [both[0], both[1]].map(|class| Class::of(class).expect("the analysis writes classes 0 to 4"));
+            [both[0], both[1]].map(|class| Class::of(class).expect("the analysis writes classes 0 to 5"));
         println!("{node} {first} {second}");
     }
 

@@ -33,7 +33,7 @@ impl Analysis {
             classes: &mut classes,
         };
         let settled = analyse(chart, PASSES, lent)?;
-        let class = |number| Class::of(number).expect("the analysis writes classes 0 to 4");
+        let class = |number| Class::of(number).expect("the analysis writes classes 0 to 5");
         let both = |node| [0, 1].map(|touch| class(classes[TOUCHES * node + touch]));
         Ok(Analysis {
             header,

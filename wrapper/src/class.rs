@@ -10,14 +10,16 @@ pub enum Class {
     Hit = 1,
     /// The touch always misses.
     Miss = 2,
-    /// It cannot be told.
+    /// None of the others can be told.
     Unsure = 3,
     /// The node makes no such touch: no first one at a bare step, and a second one only where a reference goes into a second block.
     None = 4,
+    /// On any walk at most one of the touches of a block that are called so misses, and all others of them hit.
+    Kept = 5,
 }
 
 impl Class {
-    /// The class of a number that the analysis wrote; it writes 0 to 4.
+    /// The class of a number that the analysis wrote; it writes 0 to 5.
     pub fn of(number: u8) -> Option<Class> {
         match number {
             0 => Some(Class::Unreached),
@@ -25,6 +27,7 @@ impl Class {
             2 => Some(Class::Miss),
             3 => Some(Class::Unsure),
             4 => Some(Class::None),
+            5 => Some(Class::Kept),
             _ => None,
         }
     }
@@ -38,6 +41,7 @@ impl fmt::Display for Class {
             Class::Miss => "miss",
             Class::Unsure => "unsure",
             Class::None => "none",
+            Class::Kept => "kept",
         })
     }
 }

@@ -1,4 +1,4 @@
-//! Veilbuzz for Rust: does a memory reference always hit the cache, always miss, or can it not be told?
+//! Veilbuzz for Rust: does a memory reference always hit the cache, always miss, miss once at the most, or can it not be told?
 //!
 //! This is a thin and safe cover over the C functions of `include/veilbuzz.h`. The source of those is proved: for any bytes and any lengths
 //! each gives the answer that the rules (docs/RULES.md) define, writes only what is said here, and ends. The cover itself is ordinary Rust.

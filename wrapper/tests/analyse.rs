@@ -99,8 +99,8 @@ fn an_analysis_with_buffers_of_its_own_has_the_same() {
     assert_eq!(
         analysis.classes,
         [
-            [Class::Unsure, Class::None],
-            [Class::Unsure, Class::None],
+            [Class::Kept, Class::None],
+            [Class::Kept, Class::None],
             [Class::Hit, Class::None],
             [Class::Unreached, Class::Unreached]
         ]
@@ -129,6 +129,29 @@ fn each_touch_of_a_node_has_a_class() {
             [Class::Hit, Class::Miss],
             [Class::None, Class::None]
         ]
+    );
+}
+
+/// Round a ring of two reads a block stays where a set has room for both, and where it has room for one only if the other read is passed by.
+#[test]
+fn what_stays_is_kept_and_what_may_be_pushed_out_is_unsure() {
+    let records = vec![
+        Record::read(0x00).to(1).to(2),
+        Record::read(0x10).to(0),
+        Record::step().to(0),
+    ];
+    let classes = |ways| {
+        let chart = Chart::of(records.clone()).shaped(0, ways, 1).bytes();
+        Analysis::of(&chart).expect("the chart is accepted").classes
+    };
+    let rest = [Class::None, Class::None];
+    assert_eq!(
+        classes(2),
+        [[Class::Kept, Class::None], [Class::Kept, Class::None], rest]
+    );
+    assert_eq!(
+        classes(1),
+        [[Class::Unsure, Class::None], [Class::Miss, Class::None], rest]
     );
 }
 

@@ -34,7 +34,7 @@ fn the_loop_prints_its_classes_and_its_totals() {
     // sections 14 and 10 of the rules
     assert_eq!(
         printed("loop"),
-        "nodes 3 blocks 1 passes 2\n0 none none\n1 unsure none\n2 hit none\nthe table passes: true\ntotals 2 and 101\n"
+        "nodes 3 blocks 1 passes 2\n0 none none\n1 kept none\n2 hit none\nthe table passes: true\ntotals 2 and 20\n"
     );
 }
 

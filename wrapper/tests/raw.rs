@@ -288,7 +288,7 @@ fn total(floors: &[u16], answer: *mut u64, length: usize) -> u64 {
 
 #[test]
 fn total_tells_low_and_high() {
-    tells([0, 0, 18, 210_000], |answer, length| {
+    tells([0, 0, 18, 182_084], |answer, length| {
         total(&[1, 2, 3, 0], answer, length)
     });
     tells([17, 3, 0, 0], |answer, length| total(&[1, 2, 3, 4], answer, length));

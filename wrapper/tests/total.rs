@@ -6,7 +6,7 @@ use charts::{Chart, Record};
 use lent::{chart, Lent, AGES, NODES};
 use veilbuzz::{total, Analysis, Bounds, Costs, Refusal, Totals};
 
-/// What the totals are asked with. Of the settled table two references are unsure, then one hits, and the last is unreached.
+/// What the totals are asked with. Of the settled table two references are kept, of a block each, then one hits, and the last is unreached.
 #[derive(Clone, Debug, PartialEq)]
 struct Question {
     chart: Vec<u8>,
@@ -42,13 +42,13 @@ fn refusal(number: usize, place: usize) -> Result<Totals, Refusal> {
 
 #[test]
 fn the_totals_are_the_sums() {
-    let (low, high) = (3 * (1 + 2 + 3), 1000 * (10 + 20) + 3 * 60_000);
+    let (low, high) = (3 * (1 + 2 + 3), 3 * (10 + 20 + 60_000) + 2 * (1000 - 3));
     assert_eq!(after(|_| ()), Ok(Totals { low, high }));
 }
 
 #[test]
 fn each_touch_is_paid() {
-    // four bytes over the end of a line, in one set of one way, unknown: the first touch is unsure, the second misses
+    // four bytes over the end of a line, in one set of one way, unknown: the first touch is kept, the second misses
     let chart = Chart::of(vec![Record::read(0x0E).sized(2)]).shaped(0, 1, 0).bytes();
     let analysis = Analysis::of(&chart).expect("the chart is accepted");
     let bounds = Bounds {
@@ -56,7 +56,45 @@ fn each_touch_is_paid() {
         ceilings: &[5],
     };
     let totals = total(&chart, analysis.table(), Costs { hit: 1, miss: 10 }, bounds);
-    assert_eq!(totals, Ok(Totals { low: 33, high: 100 }));
+    assert_eq!(totals, Ok(Totals { low: 33, high: 64 }));
+}
+
+/// The high total of a chart by its tightest table, at 1 for a hit and 10 for a miss, where each node is visited up to so many times.
+fn high(chart: &Chart, ceilings: &[u16]) -> u64 {
+    let chart = chart.bytes();
+    let analysis = Analysis::of(&chart).expect("the chart is accepted");
+    let bounds = Bounds {
+        floors: &vec![0; ceilings.len()],
+        ceilings,
+    };
+    let totals = total(&chart, analysis.table(), Costs { hit: 1, miss: 10 }, bounds);
+    totals.expect("the totals are accepted").high
+}
+
+#[test]
+fn a_kept_block_is_loaded_once_wherever_it_is_touched() {
+    // a step to two reads of one block, of which a walk makes one, from an unknown start: both are kept
+    let records = vec![Record::step().to(1).to(2), Record::read(0x00), Record::read(0x08)];
+    let chart = Chart::of(records).shaped(0, 2, 0);
+    for (ceilings, paid) in [
+        ([1, 4, 5], 4 + 5 + 9),
+        ([1, 0, 5], 5 + 9),
+        ([1, 4, 0], 4 + 9),
+        ([1, 0, 0], 0),
+    ] {
+        assert_eq!(high(&chart, &ceilings), paid, "{ceilings:?}");
+    }
+}
+
+#[test]
+fn an_unsure_touch_pays_a_miss_each_time() {
+    // a ring of two reads in a set of one way, and a way past the second: the first is unsure, the second misses
+    let records = vec![
+        Record::read(0x00).to(1).to(2),
+        Record::read(0x10).to(0),
+        Record::step().to(0),
+    ];
+    assert_eq!(high(&Chart::of(records).shaped(0, 1, 1), &[7, 3, 4]), 70 + 30);
 }
 
 #[test]
@@ -65,7 +103,7 @@ fn costs_of_16_bits_count_whole() {
         hit: 0xFF01,
         miss: 0xFFFF,
     };
-    let (low, high) = (0xFF01 * 6, 0xFFFF * 30 + 0xFF01 * 60_000);
+    let (low, high) = (0xFF01 * 6, 0xFF01 * 60_030 + 2 * (0xFFFF - 0xFF01));
     assert_eq!(after(|question| question.costs = dear), Ok(Totals { low, high }));
 }
 

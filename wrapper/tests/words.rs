@@ -53,9 +53,9 @@ fn each_refusal_has_words_of_its_own() {
 
 #[test]
 fn the_words_of_classes_are_those_of_the_report() {
-    let words: Vec<String> = (0..=4)
+    let words: Vec<String> = (0..=5)
         .map(|number| Class::of(number).expect("a class").to_string())
         .collect();
-    assert_eq!(words, ["unreached", "hit", "miss", "unsure", "none"]);
-    assert_eq!(Class::of(5), None);
+    assert_eq!(words, ["unreached", "hit", "miss", "unsure", "none", "kept"]);
+    assert_eq!(Class::of(6), None);
 }

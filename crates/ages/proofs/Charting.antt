@@ -1,6 +1,6 @@
 -- The plan of an accepted chart is sound: what its nodes do is what the chart says, its columns name its blocks, and two of them have one
 -- key exactly if their blocks are of one set.
-use Prim.Native.Nat.{ℕ, suc, _+_, _*_, _≤_, _<_}
+use Prim.Native.Nat.{ℕ, _≤_, _<_}
 use mathlib.Core.Bool.{Bool, true≢false}
 use mathlib.Core.List.{List, [], _∷_, map}
 use mathlib.Core.Logic.{inl, inr, ⊎-elim}
@@ -9,7 +9,6 @@ use native.Mathlib.Omega.{arith}
 use borrow.Author.Tests.{eqb-true, eq-eqb}
 use lib.Dec.{eqb}
 use lib.ListN.{getD}
-use Rattle.lists.specs.Choice.{first}
 use Rattle.lists.specs.Lists.{Among}
 use Rattle.lists.proofs.Listed.{getD-listOf}
 use Rattle.lists.proofs.Firsts.{first-test, first-fails, first-within}
@@ -32,7 +31,7 @@ among-mapped f [] y i = absurd i
 among-mapped f (x ∷ xs) y (inl e) = (x, (inl refl, e))
 among-mapped f (x ∷ xs) y (inr i) = let rest = among-mapped f xs y i in (rest .0, (inr (rest .1 .0), rest .1 .1))
 
-turns-mapped : {D E S : Type 0} (f : D → E) (act : E → S → S) (touches : List D) (a : S) → inTurn act (map f touches) a ≡ inTurn (λ touch. act (f touch)) touches a
+pub turns-mapped : {D E S : Type 0} (f : D → E) (act : E → S → S) (touches : List D) (a : S) → inTurn act (map f touches) a ≡ inTurn (λ touch. act (f touch)) touches a
 turns-mapped f act [] a = refl
 turns-mapped f act (touch ∷ touches) a = turns-mapped f act touches (act (f touch) a)
 

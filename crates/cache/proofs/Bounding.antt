@@ -20,12 +20,12 @@ use Rattle.cache.proofs.Meeting.{start-must, start-may}
 -- ---- a touch of the whole cache
 
 module _ (ways key : ℕ → ℕ) (m : ℕ) (cache : Cache) where
-  touch-here : (set : ℕ) → set ≡ key m → touch ways key m cache set ≡ touchSet (ways set) m (cache set)
+  pub touch-here : (set : ℕ) → set ≡ key m → touch ways key m cache set ≡ touchSet (ways set) m (cache set)
   unfolding touch
   touch-here set e = rw (eq-eqb set (key m) e)
 
   -- Rule 4.4: other sets.
-  touch-elsewhere : (set : ℕ) → (set ≡ key m → ⊥) → touch ways key m cache set ≡ cache set
+  pub touch-elsewhere : (set : ℕ) → (set ≡ key m → ⊥) → touch ways key m cache set ≡ cache set
   unfolding touch
   touch-elsewhere set e = rw (ne-eqb set (key m) e)
 

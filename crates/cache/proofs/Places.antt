@@ -13,12 +13,12 @@ use Rattle.cache.specs.Laws.{Aged}
 
 -- ---- ages, by the first of the list
 
-age-here : (ways x block : ℕ) (l : List ℕ) → x ≡ block → ageIn ways (x ∷ l) block ≡ 0
+pub age-here : (ways x block : ℕ) (l : List ℕ) → x ≡ block → ageIn ways (x ∷ l) block ≡ 0
 unfolding ageIn
 age-here zero x block l e = refl
 age-here (suc ways) x block l e = rw (eq-eqb x block e)
 
-age-there : (ways x block : ℕ) (l : List ℕ) → (x ≡ block → ⊥) → ageIn (suc ways) (x ∷ l) block ≡ suc (ageIn ways l block)
+pub age-there : (ways x block : ℕ) (l : List ℕ) → (x ≡ block → ⊥) → ageIn (suc ways) (x ∷ l) block ≡ suc (ageIn ways l block)
 unfolding ageIn
 age-there ways x block l e = rw (ne-eqb x block e)
 
@@ -64,11 +64,11 @@ age-apart (suc ways) block m (x ∷ l) apart e = go (ℕ-discrete x block) (ℕ-
 
 -- ---- a touch
 
-without-here : (m x : ℕ) (l : List ℕ) → x ≡ m → without m (x ∷ l) ≡ l
+pub without-here : (m x : ℕ) (l : List ℕ) → x ≡ m → without m (x ∷ l) ≡ l
 unfolding without
 without-here m x l e = rw (eq-eqb x m e)
 
-without-there : (m x : ℕ) (l : List ℕ) → (x ≡ m → ⊥) → without m (x ∷ l) ≡ x ∷ without m l
+pub without-there : (m x : ℕ) (l : List ℕ) → (x ≡ m → ⊥) → without m (x ∷ l) ≡ x ∷ without m l
 unfolding without
 without-there m x l e = rw (ne-eqb x m e)
 

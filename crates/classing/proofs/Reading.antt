@@ -1,8 +1,8 @@
--- The classes of a node by what stands in the lists of its plan and its table.
+-- The classes of a node by its ages alone, by what stands in the lists of its plan and its table.
 use Prim.Native.Nat.{ℕ, _+_, _*_, _<_}
-use mathlib.Core.Bool.{Bool, true, false, cond}
+use mathlib.Core.Bool.{Bool, false, cond}
 use mathlib.Core.List.{List, [], _∷_}
-use mathlib.Core.Path.{_≡_, refl, sym, ap, subst, _∙_}
+use mathlib.Core.Path.{_≡_, sym, ap, subst, _∙_}
 use borrow.Author.Tests.{eq-eqb, ne-eqb}
 use lib.Dec.{eqb}
 use lib.ListN.{getD}
@@ -12,7 +12,7 @@ use Rattle.cache.specs.Ages.{ageOf, mustGrown, mayGrown, mustAfter, mayAfter}
 use Rattle.cache.proofs.Touching.{touch-must, touch-may}
 use Rattle.flow.specs.Flow.{cellAt}
 use Rattle.ages.specs.Plan.{ColumnTouch, Plan, columnsOf, afterTouch}
-use Rattle.classes.specs.Class.{unreached, none, classBy, classOf, classesOf, nodeClass}
+use Rattle.classes.specs.Class.{unreached, none, classBy}
 use Rattle.plan.specs.declared.ColumnTouches.{ColumnTouches}
 use Rattle.plan.specs.declared.PlannedRecord.{PlannedRecord}
 use Rattle.plan.specs.declared.PlannedRecord.the-variants.{Step, Reference}
@@ -22,7 +22,7 @@ use Rattle.tables.specs.Lent.{Lent, agesAt, tableOf}
 use Rattle.tables.proofs.Laid.{tableOf-at}
 use Rattle.classing.specs.declared.Pair.{Pair}
 use Rattle.classing.specs.declared.Classes.{Classes}
-use Rattle.classing.specs.Both.{pairAt, classAfter, bothClasses}
+use Rattle.classing.specs.Both.{pairAt, classAfter, ageClassOf, ageClasses, bothByAges}
 
 -- A reference is of two of the columns.
 pub reference-in : (columns plan : List ℕ) → Drawn columns plan → (n : ℕ) → n < nodesIn plan → (reference : ColumnTouches) → nodeIn plan n .what ≡ Reference reference
@@ -34,7 +34,7 @@ module _ (columns plan : List ℕ) (lent : Lent) (n : ℕ) (inside : n < nodesIn
   held = planIn columns plan
 
   abbrev both : Classes
-  both = bothClasses held n (cellAt (tableOf held lent) n)
+  both = bothByAges held n (cellAt (tableOf held lent) n)
 
   pub unmarked-classes : getD (lent .marks) n 0 ≡ 0 → record { first = unreached; second = unreached } ≡ both
   unmarked-classes e = rw (tableOf-at held lent n inside, eq-eqb (getD (lent .marks) n 0) 0 e)
@@ -43,7 +43,7 @@ module _ (columns plan : List ℕ) (lent : Lent) (n : ℕ) (inside : n < nodesIn
     -- A marked node's classes are those of its touches.
     abbrev classesBy : List ColumnTouch → Classes
     classesBy touches =
-        record { first = getD (classesOf held touches (agesAt held lent n)) 0 none; second = getD (classesOf held touches (agesAt held lent n)) 1 none }
+        record { first = getD (ageClasses held touches (agesAt held lent n)) 0 none; second = getD (ageClasses held touches (agesAt held lent n)) 1 none }
 
     record-classes : (planned : PlannedRecord) → nodeIn plan n .what ≡ planned → classesBy (touchesBy planned) ≡ both
     record-classes planned e =
@@ -83,11 +83,11 @@ module _ (columns plan : List ℕ) (lent : Lent) (n : ℕ) (inside : n < nodesIn
       may-is : (column : ℕ) → column < blocksIn plan → ageOf (agesAt held lent n .may) column ≡ getD (lent .may) (n * blocksIn plan + column) 0
       may-is column h = getD-listOf (blocksIn plan) (λ k. getD (lent .may) (n * blocksIn plan + k) 0) 0 column h
 
-      first-class : classBy (getD columns (mostBlocks + lower) 0) (atLower .must) (atLower .may) ≡ classOf held lowerTouch (agesAt held lent n)
-      first-class = sym (λ i. classBy (must-limit-held columns plan lower (in-both .0) i) (must-is lower (in-both .0) i) (may-is lower (in-both .0) i))
+      first-class : classBy (getD columns (mostBlocks + lower) 0) (atLower .must) (atLower .may) false ≡ ageClassOf held lowerTouch (agesAt held lent n)
+      first-class = sym (λ i. classBy (must-limit-held columns plan lower (in-both .0) i) (must-is lower (in-both .0) i) (may-is lower (in-both .0) i) false)
 
       pub once-classes : lower ≡ upper
-          → record { first = classBy (getD columns (mostBlocks + lower) 0) (atLower .must) (atLower .may); second = none } ≡ both
+          → record { first = classBy (getD columns (mostBlocks + lower) 0) (atLower .must) (atLower .may) false; second = none } ≡ both
       once-classes same =
           (λ i. record { first = first-class i; second = none })
           ∙ ap (λ (t : Bool). classesBy (lowerTouch ∷ cond t [] (upperTouch ∷ []))) (sym (eq-eqb lower upper same))
@@ -109,11 +109,11 @@ module _ (columns plan : List ℕ) (lent : Lent) (n : ℕ) (inside : n < nodesIn
         may-grown =
             rw (touch-may (columnsOf held) lower (agesAt held lent n) upper (in-both .1), other, key-held columns plan upper (in-both .1), key-held columns plan lower (in-both .0), may-limit-held columns plan upper (in-both .1), may-is lower (in-both .0), may-is upper (in-both .1))
 
-        second-class : classAfter columns lower upper atLower atUpper ≡ classOf held upperTouch (afterTouch held lowerTouch (agesAt held lent n))
-        second-class = sym (λ i. classBy (must-limit-held columns plan upper (in-both .1) i) (must-grown i) (may-grown i))
+        second-class : classAfter columns lower upper atLower atUpper ≡ ageClassOf held upperTouch (afterTouch held lowerTouch (agesAt held lent n))
+        second-class = sym (λ i. classBy (must-limit-held columns plan upper (in-both .1) i) (must-grown i) (may-grown i) false)
 
         pub twice-classes : record {
-          first = classBy (getD columns (mostBlocks + lower) 0) (atLower .must) (atLower .may);
+          first = classBy (getD columns (mostBlocks + lower) 0) (atLower .must) (atLower .may) false;
           second = classAfter columns lower upper atLower atUpper;
         } ≡ both
         twice-classes =

@@ -1,15 +1,15 @@
--- What inner functions promise of a node's two classes. Nothing here is a rule of the tool: `nodeClass` of the crate `classes` has rules 8.1 and 8.2,
--- and laws lead there.
+-- What inner functions promise of a node's two classes: first by its ages alone, where what is kept still counts as unsure, and then by its sets too.
+-- Nothing here is a rule of the tool: `nodeClass` of the crate `classes` has rules 8.1 and 8.2, and laws lead there.
 use Prim.Native.Nat.{ℕ, _+_, _*_}
-use mathlib.Core.Bool.{cond}
+use mathlib.Core.Bool.{false, cond, not, _&&_}
 use mathlib.Core.List.{List}
 use lib.ListN.{getD}
 use lib.Dec.{eqb}
 use Rattle.chart.specs.Geometry.{mostBlocks}
-use Rattle.cache.specs.Ages.{Ages, mustGrown, mayGrown}
-use Rattle.flow.specs.Flow.{Cell}
-use Rattle.ages.specs.Plan.{Plan}
-use Rattle.classes.specs.Class.{classBy, nodeClass}
+use Rattle.cache.specs.Ages.{Ages, ageOf, mustGrown, mayGrown}
+use Rattle.flow.specs.Flow.{Cell, blank, holds}
+use Rattle.ages.specs.Plan.{ColumnTouch, Plan, columnsOf, touchesIn, afterTouch}
+use Rattle.classes.specs.Class.{unreached, unsure, none, kept, classBy, classesBy}
 use Rattle.classing.specs.declared.Pair.{Pair}
 use Rattle.classing.specs.declared.Classes.{Classes}
 
@@ -23,7 +23,24 @@ classAfter columns lower upper first second =
     classBy (getD columns (mostBlocks + upper) 0)
     (cond (eqb (getD columns upper 0) (getD columns lower 0)) (mustGrown (first .must) (second .must)) (second .must))
     (cond (eqb (getD columns upper 0) (getD columns lower 0)) (mayGrown (getD columns (2 * mostBlocks + upper) 0) (first .may) (second .may)) (second .may))
+    false
 
--- Both classes of a node.
-abbrev pub bothClasses : Plan → ℕ → Cell Ages → Classes
-bothClasses plan n cell = record { first = nodeClass plan n 0 cell; second = nodeClass plan n 1 cell }
+-- The class of a touch by the ages alone.
+abbrev pub ageClassOf : Plan → ColumnTouch → Ages → ℕ
+ageClassOf plan touch a =
+    classBy (columnsOf plan .mustLimit (touch .column)) (ageOf (a .must) (touch .column)) (ageOf (a .may) (touch .column)) false
+
+abbrev pub ageClasses : Plan → List ColumnTouch → Ages → List ℕ
+ageClasses plan touches a = classesBy (ageClassOf plan) (afterTouch plan) touches a
+
+abbrev pub nodeAgeClass : Plan → ℕ → ℕ → Cell Ages → ℕ
+nodeAgeClass plan n k blank = unreached
+nodeAgeClass plan n k (holds a) = getD (ageClasses plan (touchesIn plan n) a) k none
+
+-- Both classes of a node by its ages alone.
+abbrev pub bothByAges : Plan → ℕ → Cell Ages → Classes
+bothByAges plan n cell = record { first = nodeAgeClass plan n 0 cell; second = nodeAgeClass plan n 1 cell }
+
+-- A class by the ages alone, where it is told whether few blocks are in the set: 0 for no.
+abbrev pub refined : ℕ → ℕ → ℕ
+refined class stays = cond (eqb class unsure && not (eqb stays 0)) kept class

@@ -1,16 +1,19 @@
-// Works out the two classes of each node of a lent table (rules 8.1 and 8.2), for the analysis, which leaves them, and the totals, which sum by them.
-// Callers keep that there is room for the table, and for the classes. Nothing is refused here.
+// Works out the two classes of each node of a lent table (rules 8.1 and 8.2), for the analysis, which leaves them, and the totals, which sum by them:
+// first by the ages alone, and then what is unsure by the sets since. Callers keep that there is room for the table, and for the classes. Nothing is
+// refused here.
 ghost use mathlib.Core.Path.{_≡_};
 ghost use Prim.Native.Nat.{_*_, _≤_, _<_};
 ghost use lib.ListN.{length};
 ghost use Rattle.lists.specs.Lists.{written};
 ghost use Rattle.chart.specs.Geometry.{mostBlocks, mostTouches};
 ghost use Rattle.flow.specs.Flow.{cellAt};
-ghost use Rattle.plan.specs.Listed.{nodesIn, DrawnIn, planAt};
+ghost use Rattle.plan.specs.Listed.{nodesIn, planIn, DrawnIn, planAt};
+ghost use Rattle.keeping.specs.Told.{StaysTold};
 ghost use Rattle.tables.specs.Lent.{tableOf};
 ghost use Rattle.tables.specs.Contract.{entryTable, RoomFor};
+ghost use mathlib.Core.Bool.{false};
 ghost use Rattle.classes.specs.Class.{classBy, tableClasses};
-ghost use Rattle.classing.specs.Both.{pairAt, classAfter, bothClasses};
+ghost use Rattle.classing.specs.Both.{pairAt, classAfter, bothByAges, refined};
 use chart::Geometry;
 use plan::PlannedRecord;
 
@@ -25,9 +28,11 @@ pub const UNSURE: u8 = 3;
 
 pub const NONE: u8 = 4;
 
+pub const KEPT: u8 = 5;
+
 // The class of a touch by its block's must and may age and the most that its must age can be: hit, miss or unsure.
 fn class_of(limit: u8, must: u8, may: u8) -> u8
-    ensures { λ r. ⌜ r ≡ classBy limit must may ⌝ }
+    ensures { λ r. ⌜ r ≡ classBy limit must may false ⌝ }
 {
     if must < limit {
         return HIT;
@@ -74,13 +79,13 @@ fn class_after(columns: &[u8], lower: usize, upper: usize, first: Pair, second: 
 }
 
 // The two classes of a node, that of its first touch first.
-pub struct Classes {
+pub(crate) struct Classes {
     pub first: u8,
     pub second: u8,
 }
 
-// The classes of node n: unreached where it is not marked, none for a touch that it does not make, else those of its touches in turn.
-pub fn classes_at(
+// The classes of node n by its ages alone: unreached where it is not marked, none for a touch that it does not make, else those of its touches in turn.
+fn classes_at(
     columns: &[u8],
     plan: &[u16],
     must: &[u8],
@@ -91,7 +96,7 @@ pub fn classes_at(
     requires { ⌜ DrawnIn columns plan ⌝ }
     requires { ⌜ RoomFor plan must may marks ⌝ }
     requires { ⌜ n < nodesIn (now plan) ⌝ }
-    ensures { λ r. ⌜ r ≡ bothClasses (planAt columns plan) n (cellAt (tableOf (planAt columns plan) (entryTable must may marks)) n) ⌝ }
+    ensures { λ r. ⌜ r ≡ bothByAges (planAt columns plan) n (cellAt (tableOf (planAt columns plan) (entryTable must may marks)) n) ⌝ }
 {
     if marks[n] == 0 {
         return Classes {
@@ -126,6 +131,44 @@ pub fn classes_at(
     }
 }
 
+// A class by the ages alone, or kept: where it is unsure, and `stays` is not 0.
+fn refine(class: u8, stays: u8) -> u8
+    ensures { λ r. ⌜ r ≡ refined class stays ⌝ }
+{
+    if (class == UNSURE) & (stays != 0) {
+        KEPT
+    } else {
+        class
+    }
+}
+
+// Writes the two classes of each node over the start of `classes`, which keeps the rest, where it is told of each touch whether few blocks are in the
+// set of its block.
+fn put_classes(
+    columns: &[u8],
+    plan: &[u16],
+    must: &[u8],
+    may: &[u8],
+    marks: &[u8],
+    stays: &[u8],
+    classes: &mut [u8],
+)
+    requires { ⌜ DrawnIn columns plan ⌝ }
+    requires { ⌜ RoomFor plan must may marks ⌝ }
+    requires { ⌜ (mostTouches * nodesIn (now plan) ≤ length (now stays)) × (mostTouches * nodesIn (now plan) ≤ length (now classes)) ⌝ }
+    requires { ⌜ StaysTold (planIn (now columns) (now plan)) (now stays) ⌝ }
+    ensures { λ r. ⌜ now (classes .exit) ≡ written (tableClasses (planAt columns plan) (tableOf (planAt columns plan) (entryTable must may marks))) (now (classes .entry)) ⌝ }
+{
+    let nodes = plan::nodes_in(plan);
+    for n in 0..nodes {
+        let both = classes_at(columns, plan, must, may, marks, n);
+        let first = Geometry::TOUCHES * n;
+        let second = first + 1;
+        classes[first] = refine(both.first, stays[first]);
+        classes[second] = refine(both.second, stays[second]);
+    }
+}
+
 // Writes the two classes of each node over the start of `classes`, which keeps the rest.
 pub fn write_classes(
     columns: &[u8],
@@ -140,10 +183,7 @@ pub fn write_classes(
     requires { ⌜ mostTouches * nodesIn (now plan) ≤ length (now classes) ⌝ }
     ensures { λ r. ⌜ now (classes .exit) ≡ written (tableClasses (planAt columns plan) (tableOf (planAt columns plan) (entryTable must may marks))) (now (classes .entry)) ⌝ }
 {
-    let nodes = plan::nodes_in(plan);
-    for n in 0..nodes {
-        let both = classes_at(columns, plan, must, may, marks, n);
-        classes[Geometry::TOUCHES * n] = both.first;
-        classes[Geometry::TOUCHES * n + 1] = both.second;
-    }
+    let mut stays = [0u8; Geometry::CLASSES];
+    keeping::write_stays(columns, plan, &mut stays);
+    put_classes(columns, plan, must, may, marks, &stays, classes);
 }

@@ -1,2 +1,3 @@
 pub mod Spending
 pub mod Classed
+pub mod Charging

@@ -1,5 +1,5 @@
 -- Demand 2: the checker passes exactly the tables that meet the equations, and an analysis that settles leaves the tightest of them.
-use Prim.Native.Nat.{ℕ, _+_, _*_, _%_, _^_, _≤_}
+use Prim.Native.Nat.{ℕ, _+_, _*_, _%_, _^_, _≤_, _<_}
 use mathlib.Core.Bool.{false}
 use mathlib.Core.List.{List}
 use mathlib.Core.Path.{_≡_, refl, sym, ap, _∙_, subst}
@@ -9,7 +9,7 @@ use lib.ListN.{length, replicate, length-replicate}
 use Rattle.chart.specs.declared.headers.Start.{Start}
 use Rattle.chart.specs.declared.headers.Start.the-variants.{Unknown, Empty}
 use Rattle.chart.specs.Geometry.{mostTouches, mostNodes, mostBlocks, mostWays, setOf, passesFor, allPasses}
-use Rattle.chart.specs.Chart.{Chart, Read, accepted, refused, readChart, blockCount}
+use Rattle.chart.specs.Chart.{Chart, Read, accepted, refused, readChart, touches, blockCount}
 use Rattle.chart.specs.Bytes.{AreBytes}
 use Rattle.chart.proofs.Saying.{accepted-says}
 use Rattle.chart.proofs.Accepted.{accepted-nodes, accepted-ways, accepted-few}
@@ -19,10 +19,18 @@ use Rattle.cache.proofs.Published.{as-published}
 use Rattle.machine.specs.Machine.{waysOf, keyOf, BeginsWith, plainMachine}
 use Rattle.flow.specs.Flow.{Cell, cellAt}
 use Rattle.flow.specs.Passing.{Marked, Tightest}
-use Rattle.flow.specs.Pass.{settled}
-use Rattle.flow.proofs.Outcomes.{settle-agree}
-use Rattle.ages.specs.Charted.{blockAt, isEmpty, planOf, agesFlow, mostPasses}
-use Rattle.ages.proofs.Charting.{key-alike, set-alike, must-limit-planned, may-limit-planned, limits-planned, enough-planned, chart-sound, step-touches, reached-planned, planned-reached}
+use Rattle.flow.specs.Pass.{settled, settle}
+use Rattle.flow.specs.Walk.{inTurn}
+use Rattle.kept.specs.Since.{Since}
+use Rattle.kept.specs.Kept.{afterTouchOf, keptFlow, keptPasses, keptTable}
+use Rattle.kept.proofs.Settled.{kept-settles, kept-count, kept-tightest}
+use Rattle.kept.proofs.Walked.{kept-walked}
+use Rattle.ages.specs.Plan.{ColumnTouch}
+use Rattle.lists.proofs.Listed.{getD-listOf}
+use Rattle.flow.proofs.Ending.{settle-after}
+use Rattle.flow.proofs.Outcomes.{settle-agree, settle-made}
+use Rattle.ages.specs.Charted.{blockAt, keyAt, columnTouch, isEmpty, planOf, agesFlow, mostPasses}
+use Rattle.ages.proofs.Charting.{key-alike, set-alike, must-limit-planned, may-limit-planned, limits-planned, enough-planned, chart-sound, turns-mapped, arrows-planned, touches-planned, column-inside, column-holds, step-touches, reached-planned, planned-reached}
 use Rattle.tables.specs.Lent.{agesUsed}
 use Rattle.tables.specs.Fitting.{TableFits}
 use Rattle.tables.proofs.Laid.{table-over, not-short, over-passes}
@@ -32,7 +40,7 @@ use Rattle.analysis.specs.declared.Analysed.the-variants.{Settled, Refused}
 use Rattle.analysis.specs.Analysis.{Buffers, Left, buffersShort, filledBy, tableIn, analysed}
 use Rattle.report.specs.Report.{taken, zeroBuffers}
 use Rattle.report.specs.Ending.{refusedBy, refuses}
-use Rattle.demands.specs.Demand2.{ShapeSaid, Settles, Demand2}
+use Rattle.demands.specs.Demand2.{ShapeSaid, Settles, Planned, KeptSettles, Demand2}
 use Rattle.demands.proofs.Refusals.{reading-refusals}
 use Rattle.demands.proofs.Checking.{checker-yes, yes-checker}
 use Rattle.analysis.proofs.Room.{room-parts, parts-room}
@@ -168,6 +176,47 @@ program-accepts input chart read = ap refusedBy (program-enough (taken input) ch
 
 -- ---- the demand
 
+-- ---- the plan
+
+chart-planned : (bytes : List ℕ) (chart : Chart) → readChart bytes ≡ accepted chart → Planned chart
+chart-planned bytes chart read =
+    record {
+      entry-is = refl;
+      nodes-are = refl;
+      blocks-are = refl;
+      arrows-are = arrows-planned chart;
+      touches-are = touches-planned chart;
+      keys-are = λ column h. getD-listOf (blockCount chart) (keyAt chart) 0 column h;
+      columns-hold = λ n h touch among. (column-inside bytes chart read n h touch among, column-holds bytes chart read n h touch among);
+    }
+
+-- ---- the table of one block
+
+kept-touches : (chart : Chart) (column n : ℕ) → n < chart .header .nodes → (since : Since)
+    → keptFlow (planOf chart) column .step n since ≡ inTurn (λ touch. afterTouchOf (planOf chart) column (columnTouch chart touch)) (touches chart n) since
+kept-touches chart column n h since =
+    ap (λ (ts : List ColumnTouch). inTurn (afterTouchOf (planOf chart) column) ts since) (touches-planned chart n h)
+    ∙ turns-mapped (columnTouch chart) (afterTouchOf (planOf chart) column) (touches chart n) since
+
+kept-settled : (bytes : List ℕ) (chart : Chart) (column : ℕ) → readChart bytes ≡ accepted chart → column < blockCount chart → KeptSettles chart column
+kept-settled bytes chart column read inside =
+    let plan = planOf chart in
+    let sound = chart-sound bytes chart read in
+    let few = accepted-few bytes chart read in
+    let most : keptPasses plan ≡ 65 * chart .header .nodes + 1 = omega arith in
+    let done = kept-settles plan sound few column inside in
+    record {
+      passes = done .0;
+      settles = subst (λ (allowance : ℕ). settle (keptFlow plan column) allowance ≡ settled (done .0) (keptTable plan column)) most (done .1);
+      made = settle-made (keptFlow plan column) (keptPasses plan) (done .0) (keptTable plan column) (done .1);
+      last = settle-after (keptFlow plan column) (keptPasses plan) (done .0) (keptTable plan column) (done .1) .last;
+      earlier = settle-after (keptFlow plan column) (keptPasses plan) (done .0) (keptTable plan column) (done .1) .earlier;
+      count = λ allowance made table e. omega (arith, kept-count plan sound few column inside allowance made table e);
+      table-passes = kept-tightest plan sound few column inside .passing;
+      tightest = kept-tightest plan sound few column inside;
+      walked = kept-walked plan sound few column inside;
+    }
+
 pub demand2 : Demand2
 demand2 =
     record {
@@ -186,4 +235,7 @@ demand2 =
       program-settles = λ input. program-enough (taken input);
       program-accepts = program-accepts;
       agree = settled-agree;
+      planned = chart-planned;
+      kept-touch-by-touch = kept-touches;
+      kept-settled = kept-settled;
     }

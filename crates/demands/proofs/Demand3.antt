@@ -1,6 +1,6 @@
 -- Demand 3: what the tool says is true of the plain machine, at each step of every walk, and what the machine pays lies between the totals.
-use Prim.Native.Nat.{ℕ, _+_, _*_, _<_}
-use mathlib.Core.Bool.{true, not}
+use Prim.Native.Nat.{ℕ, _+_, _*_, _≤_, _<_}
+use mathlib.Core.Bool.{true}
 use mathlib.Core.List.{List, _++_}
 use mathlib.Core.Path.{_≡_, refl, sym, ap, _∙_, subst}
 use native.Mathlib.Omega.{arith}
@@ -11,12 +11,14 @@ use Rattle.lists.proofs.Joined.{getD-written}
 use Rattle.chart.specs.Chart.{Chart, accepted, readChart, touches}
 use Rattle.refusals.proofs.Numbers.{number-tag}
 use Rattle.cache.specs.Ages.{Ages}
-use Rattle.ages.specs.Charted.{planOf, touchedBy}
-use Rattle.machine.specs.Machine.{plainMachine, Contents}
-use Rattle.costs.specs.Costs.{Figures, classesAt}
+use Rattle.ages.specs.Charted.{planOf}
+use Rattle.machine.specs.Machine.{plainMachine, Contents, costOf}
+use Rattle.machine.specs.Keeping.{touchWhole}
+use Rattle.machine.proofs.Keeping.{kept-once}
+use Rattle.costs.specs.Costs.{Figures, classesAt, highTotal}
 use Rattle.flow.specs.Flow.{Cell, cellAt}
 use Rattle.flow.proofs.Walking.{at-nodes, visitsOf-zero, at-nodes-both}
-use Rattle.tables.specs.Lent.{Lent, tableOf, TablePasses}
+use Rattle.tables.specs.Lent.{Lent, agesAt, tableOf, TablePasses}
 use Rattle.tables.proofs.Laid.{tableOf-at}
 use Rattle.analysis.specs.declared.Analysed.the-variants.{Settled}
 use Rattle.classes.specs.Class.{nodeClass, tableClasses, CalledRight}
@@ -28,11 +30,14 @@ use Rattle.totals.specs.declared.Totals.{Totals}
 use Rattle.totals.specs.Totals.{totals, totalsSay}
 use Rattle.costs.proofs.Spending.{low-below, high-above, low-reached, high-reached}
 use Rattle.demands.specs.Demand1.{FiguresFit, Summable}
-use Rattle.demands.specs.Demand3.{OnWalk, VisitsWithin, SaysTrue, ClassTrue, AtEachNode, CostBetween, Demand3, VisitsKnown, Sure, CostExactly}
+use Rattle.demands.specs.Demand3.{OnWalk, VisitsWithin, wholeIn, SaysTrue, ClassTrue, keptMisses, readMisses, AtEachNode, CostBetween, Demand3, VisitsKnown, Sure, CostExactly}
 use Rattle.demands.specs.Inner.{touchClass, RightHere, ToldHere, Arrives}
 use Rattle.demands.proofs.Checking.{checker-yes}
 use Rattle.demands.proofs.Demand2.{demand2}
 use Rattle.demands.proofs.Totalling.{totals-refusals}
+use Rattle.demands.proofs.Keeping.{charge-above}
+use Rattle.demands.proofs.Unkept.{charge-none}
+use Rattle.demands.proofs.Reading.{written-misses}
 use Rattle.demands.proofs.Truth.{walk-arrives, arrived-true, arrived-reached, arrived-right}
 
 module _ (bytes : List ℕ) (chart : Chart) (table : Lent) (cache : Contents chart) (ts : List ℕ) (on : OnWalk bytes chart cache ts) (passing : TablePasses (planOf chart) table) where
@@ -44,6 +49,10 @@ module _ (bytes : List ℕ) (chart : Chart) (table : Lent) (cache : Contents cha
   pub passing-true : AtEachNode chart (SaysTrue chart table) ts cache
   passing-true =
       at-nodes (plainMachine chart) (touches chart) (Arrives chart table) (SaysTrue chart table) (arrived-true bytes chart (on .read) table (passing .equations)) (chart .header .entry) ts cache arriving
+
+  -- Of the touches of a block that are called kept, one misses at most.
+  pub passing-once : (block : ℕ) → keptMisses chart table block ts cache ≤ 1
+  passing-once block = kept-once bytes chart (on .read) (agesAt (planOf chart) table) cache (on .begins) ts (on .walk) block
 
   -- ---- costs
 
@@ -74,13 +83,20 @@ module _ (bytes : List ℕ) (chart : Chart) (table : Lent) (cache : Contents cha
         at-nodes (plainMachine chart) (touches chart) (Arrives chart table) (RightHere chart table)
         (arrived-right bytes chart (on .read) table (passing .equations)) (chart .header .entry) ts cache arriving
 
+    -- The high total, with what touches called kept may cost beyond their hits.
+    high-most : costOf chart (figures .costs .hit) (figures .costs .miss) ts cache ≤ highTotal (planOf chart) (tableOf (planOf chart) table) figures
+    high-most =
+        let most = high-above (plainMachine chart) (touchClass chart) (touchWhole chart) (touches chart) (chart .header .nodes) (classesAt (planOf chart)) (wholeIn chart table) (tableOf (planOf chart) table) figures (figures-fit .costs) (chart .header .entry) ts cache right (within .no-more) in
+        let beyond = charge-above bytes chart (on .read) table ts cache arriving passing-once figures (within .no-more) in
+        omega arith
+
     pub passing-between : CostBetween chart figures ts cache (totals bytes table figures)
     passing-between =
         subst (CostBetween chart figures ts cache) (sym (totals-refusals bytes chart table figures (on .read) .sums summable))
         record {
           given = refl;
-          no-less = low-below (plainMachine chart) (touchClass chart) (touchedBy chart) (touches chart) (chart .header .nodes) (classesAt (planOf chart)) (tableOf (planOf chart) table) figures (figures-fit .costs) (chart .header .entry) ts cache right (within .no-less);
-          no-more = high-above (plainMachine chart) (touchClass chart) (touchedBy chart) (touches chart) (chart .header .nodes) (classesAt (planOf chart)) (tableOf (planOf chart) table) figures (figures-fit .costs) (chart .header .entry) ts cache right (within .no-more);
+          no-less = low-below (plainMachine chart) (touchClass chart) (touchWhole chart) (touches chart) (chart .header .nodes) (classesAt (planOf chart)) (wholeIn chart table) (tableOf (planOf chart) table) figures (figures-fit .costs) (chart .header .entry) ts cache right (within .no-less);
+          no-more = high-most;
         }
 
     -- Where nothing is unsure and the visits are known.
@@ -93,10 +109,11 @@ module _ (bytes : List ℕ) (chart : Chart) (table : Lent) (cache : Contents cha
 
       pub passing-exactly : CostExactly chart figures ts cache (totals bytes table figures)
       passing-exactly =
-          let least = low-below (plainMachine chart) (touchClass chart) (touchedBy chart) (touches chart) (chart .header .nodes) (classesAt (planOf chart)) (tableOf (planOf chart) table) figures (figures-fit .costs) (chart .header .entry) ts cache right (within .no-less) in
-          let most = high-above (plainMachine chart) (touchClass chart) (touchedBy chart) (touches chart) (chart .header .nodes) (classesAt (planOf chart)) (tableOf (planOf chart) table) figures (figures-fit .costs) (chart .header .entry) ts cache right (within .no-more) in
-          let low = low-reached (plainMachine chart) (touchClass chart) (touchedBy chart) (touches chart) (chart .header .nodes) (classesAt (planOf chart)) (tableOf (planOf chart) table) figures (figures-fit .costs) (chart .header .entry) ts cache told-right (λ n h. omega (arith, known .floors n h)) in
-          let high = high-reached (plainMachine chart) (touchClass chart) (touchedBy chart) (touches chart) (chart .header .nodes) (classesAt (planOf chart)) (tableOf (planOf chart) table) figures (figures-fit .costs) (chart .header .entry) ts cache told-right (λ n h. omega (arith, known .ceilings n h)) in
+          let least = low-below (plainMachine chart) (touchClass chart) (touchWhole chart) (touches chart) (chart .header .nodes) (classesAt (planOf chart)) (wholeIn chart table) (tableOf (planOf chart) table) figures (figures-fit .costs) (chart .header .entry) ts cache right (within .no-less) in
+          let most = high-most in
+          let low = low-reached (plainMachine chart) (touchClass chart) (touchWhole chart) (touches chart) (chart .header .nodes) (classesAt (planOf chart)) (wholeIn chart table) (tableOf (planOf chart) table) figures (figures-fit .costs) (chart .header .entry) ts cache told-right (λ n h. omega (arith, known .floors n h)) in
+          let high = high-reached (plainMachine chart) (touchClass chart) (touchWhole chart) (touches chart) (chart .header .nodes) (classesAt (planOf chart)) (wholeIn chart table) (tableOf (planOf chart) table) figures (figures-fit .costs) (chart .header .entry) ts cache told-right (λ n h. omega (arith, known .ceilings n h)) in
+          let uncharged = charge-none chart table ts cache figures arriving sure (λ n h. omega (arith, known .ceilings n h)) in
           subst (CostExactly chart figures ts cache) (sym (totals-refusals bytes chart table figures (on .read) .sums summable))
           record { given = refl; low = omega arith; high = omega arith }
 
@@ -151,6 +168,15 @@ module _ (bytes : List ℕ) (chart : Chart) (allowance passes blocks : ℕ) (len
       at-nodes (plainMachine chart) (touches chart) (Arrives chart (tableIn left)) (ClassTrue chart (left .classes)) class-true (chart .header .entry) ts cache
       (arriving bytes chart (tableIn left) cache ts on laid)
 
+  -- The same count as by the table that was left.
+  pub settled-once : (block : ℕ) → readMisses chart (left .classes) block ts cache ≤ 1
+  settled-once block =
+      omega (
+        arith,
+        passing-once bytes chart (tableIn left) cache ts on laid block,
+        written-misses bytes chart (on .read) (tableIn left) (laid .equations) (left .classes) first-written second-written block ts cache (arriving bytes chart (tableIn left) cache ts on laid),
+      )
+
 -- ---- the demand
 
 pub demand3 : Demand3
@@ -158,6 +184,8 @@ demand3 =
     record {
       says-true = λ bytes chart table cache ts on yes. passing-true bytes chart table cache ts on (checker-yes bytes chart table (on .read) yes);
       written-true = settled-true;
+      kept-once = λ bytes chart table cache ts block on yes. passing-once bytes chart table cache ts on (checker-yes bytes chart table (on .read) yes) block;
+      written-once = λ bytes chart allowance passes blocks lent cache ts block on done. settled-once bytes chart allowance passes blocks lent cache ts on done block;
       cost-between = λ bytes chart table figures cache ts answer on yes figures-fit within contract.
           subst (CostBetween chart figures ts cache) (sym contract) (passing-between bytes chart table cache ts on (checker-yes bytes chart table (on .read) yes) figures figures-fit within);
       given-between = λ bytes chart table figures cache ts answer on within contract given.

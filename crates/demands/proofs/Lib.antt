@@ -5,6 +5,9 @@ pub mod Checking
 pub mod Analysing
 pub mod Totalling
 pub mod Truth
+pub mod Keeping
+pub mod Unkept
+pub mod Reading
 pub mod Writing
 pub mod Back
 pub mod Again
@@ -18,3 +21,4 @@ pub mod Anywhere
 pub mod Leaving
 pub mod Paying
 pub mod Taking
+pub mod Sets

@@ -25,11 +25,13 @@ use Rattle.flow.specs.Walk.{visitsOf}
 use Rattle.flow.specs.Pass.{met, changes, metAt, put, putAll, takeWith, takeNode, takeNodes, pass, before, afterPasses, settleFrom, settle}
 use Rattle.flow.proofs.Reaching.{onward-more}
 use Rattle.flow.proofs.Paying.{paid-scales}
+use Rattle.kept.specs.Since.{members, untouched, inAfter, touchSince, meetSince, sameSince}
+use Rattle.kept.specs.Kept.{keptFlow, keptTable, staysBy}
 use Rattle.classes.specs.Class.{classBy}
 use Rattle.analysis.specs.Analysis.{finish, analysed}
 use Rattle.checker.specs.Checker.{passing, checkedBy, checked}
 use Rattle.totals.specs.Totals.{totals}
-use Rattle.costs.specs.Costs.{totalBy}
+use Rattle.costs.specs.Costs.{totalBy, keptCharge}
 use Rattle.report.specs.Report.{report}
 use Rattle.report.specs.Ending.{refuses}
 use Rattle.report.proofs.Refusing.{refusal-told}
@@ -39,6 +41,7 @@ use Rattle.demands.proofs.Anywhere.{anywhere}
 use Rattle.demands.proofs.Leaving.{leaving}
 use Rattle.demands.proofs.Paying.{paying}
 use Rattle.demands.proofs.Taking.{taking}
+use Rattle.demands.proofs.Sets.{sets}
 use Rattle.demands.specs.Soundings.{starred, loopFigures, tenTurns}
 use Rattle.demands.specs.Refused.{damaged, unanalysed}
 use Rattle.demands.specs.Tabled.{unchecked, looser, untotalled, summed}
@@ -46,6 +49,7 @@ use Rattle.demands.specs.Corners.{corners, unknownStart, strangers}
 use Rattle.demands.specs.Shared.{sharedSoundings, shapeSoundings}
 use Rattle.demands.specs.Edges.{leftBehind, edges, elevenSteps, elevenReport}
 use Rattle.demands.specs.Straddling.{straddle, straddleReport, straddling, straddlingPaid}
+use Rattle.demands.specs.Staying.{stayingPasses, staying, stayingPaid, stayingApart}
 use Rattle.demands.specs.Mistakes.{right, mistaken}
 use Rattle.demands.specs.Examples.{examples}
 use Rattle.demands.specs.Charts.{loopChart}
@@ -53,7 +57,7 @@ use Rattle.demands.specs.Sounded.{Sounded}
 
 -- All that has to be seen through for a definition to compute.
 all-unfolded : Unit {0}
-unfolding readingOf wordAt blockOf setOf shapeAllowed recordKeeps recordOf arrowsOf touchesOf gathered overfull placeIn firstBroken firstOverfull readChart has without touchSet ageIn hits touch mustGrown mayGrown mustAfter mayAfter sameAges touchAges meetAges startAges met changes metAt put putAll takeWith takeNode takeNodes pass before afterPasses settleFrom settle classBy finish analysed passing checkedBy checked totalBy totals report refuses nodeRead
+unfolding readingOf wordAt blockOf setOf shapeAllowed recordKeeps recordOf arrowsOf touchesOf gathered overfull placeIn firstBroken firstOverfull readChart has without touchSet ageIn hits touch mustGrown mayGrown mustAfter mayAfter sameAges touchAges meetAges startAges met changes metAt put putAll takeWith takeNode takeNodes pass before afterPasses settleFrom settle classBy members untouched inAfter touchSince meetSince sameSince keptTable staysBy keptCharge finish analysed passing checkedBy checked totalBy totals report refuses nodeRead
 all-unfolded = tt
 
 pub loop-nodes : headerIn loopChart .nodes ≡ 3
@@ -136,6 +140,22 @@ straddling-paid : Hold straddlingPaid
 unfolding all-unfolded
 straddling-paid = refl
 
+staying-passes : Hold stayingPasses
+unfolding all-unfolded
+staying-passes = refl
+
+staying-hold : Hold staying
+unfolding all-unfolded
+staying-hold = refl
+
+staying-paid : Hold stayingPaid
+unfolding all-unfolded
+staying-paid = refl
+
+staying-apart : Hold stayingApart
+unfolding all-unfolded
+staying-apart = refl
+
 straddle-report : report straddle ≡ straddleReport
 unfolding all-unfolded
 straddle-report = refl
@@ -188,6 +208,8 @@ sounded =
       left-at-any = leaving;
       paid-at-any = paying;
       taken-at-any = λ plan. taking (planFlow plan);
+      kept-taken-at-any = λ plan column. taking (keptFlow plan column);
+      sets-at-any = sets;
       sample-not-refused = refl;
       no-bytes-refused = refl;
       refusal-told = refusal-told;
@@ -206,8 +228,13 @@ sounded =
       straddling-hold = straddling-hold;
       straddling-paid = straddling-paid;
       straddle-report = straddle-report;
-      hit-called = λ limit must may h. rw (lt-ltb must limit h);
-      miss-called = λ limit must may h e. rw (le-ltb must limit h, eq-eqb may limit e);
+      staying-passes = staying-passes;
+      staying-hold = staying-hold;
+      staying-paid = staying-paid;
+      staying-apart = staying-apart;
+      hit-called = λ limit must may stays h. rw (lt-ltb must limit h);
+      miss-called = λ limit must may stays h e. rw (le-ltb must limit h, eq-eqb may limit e);
+      kept-called = λ limit must may h e. rw (le-ltb must limit h, ne-eqb may limit e);
       unsure-called = λ limit must may h e. rw (le-ltb must limit h, ne-eqb may limit e);
       cost-scales = λ chart k hitCost missCost ts contents. paid-scales (plainMachine chart) k hitCost missCost (touches chart) (chart .header .entry) ts contents;
       chart-sounded = chart-sounded;

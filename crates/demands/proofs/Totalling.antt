@@ -31,7 +31,7 @@ use Rattle.checker.proofs.Deciding.{passing-yes, yes-long, yes-passing}
 use Rattle.checker.proofs.Used.{passing-used}
 use Rattle.totals.specs.declared.Totals.{Totals}
 use Rattle.totals.specs.declared.Totals.the-variants.{Between, Refused}
-use Rattle.costs.specs.Costs.{Figures, lowRate, highRate, totalBy, classesAt, lowTotal, highTotal}
+use Rattle.costs.specs.Costs.{Figures, lowTotal, highTotal}
 use Rattle.totals.specs.Totals.{floorAtUnmarked, firstCrossed, firstFloorAtUnmarked, totalCases, totalRead, totals, totalsSay}
 use Rattle.demands.specs.Demand1.{TotalsRefusals, Summable}
 use Rattle.demands.proofs.Refusals.{reading-refusals}
@@ -161,10 +161,8 @@ module _ (bytes : List ℕ) (chart : Chart) (one other : Lent) (figures : Figure
       first-same (chart .header .nodes) _ _
       (λ n h i. eqb (used-mark (planOf chart) one other same n h i) 0 && ltb 0 (getD (figures .floors) n 0))
 
-  total-same : (rate : ℕ → ℕ) (times : List ℕ)
-      → totalBy (chart .header .nodes) (classesAt (planOf chart)) (tableOf (planOf chart) one) rate times ≡ totalBy (chart .header .nodes) (classesAt (planOf chart)) (tableOf (planOf chart) other) rate times
-  total-same rate times =
-      ap (λ (T : List (Cell Ages)). totalBy (chart .header .nodes) (classesAt (planOf chart)) T rate times) (used-table (planOf chart) one other same)
+  total-same : (total : List (Cell Ages) → ℕ) → total (tableOf (planOf chart) one) ≡ total (tableOf (planOf chart) other)
+  total-same total = ap total (used-table (planOf chart) one other same)
 
   abbrev answerBy : Bool → Bool → ℕ → ℕ → ℕ → Totals
   answerBy short pass unmarked low high =
@@ -181,5 +179,5 @@ module _ (bytes : List ℕ) (chart : Chart) (one other : Lent) (figures : Figure
   pub totals-used : totals bytes one figures ≡ totals bytes other figures
   totals-used =
       totals-accepted bytes chart one figures read
-      ∙ (λ i. answerBy ((same .one-long ∙ sym (same .other-long)) i) (passing-used (planOf chart) (chart-sound bytes chart read) one other same i) (unmarked-same i) (total-same (lowRate (figures .costs)) (figures .floors) i) (total-same (highRate (figures .costs)) (figures .ceilings) i))
+      ∙ (λ i. answerBy ((same .one-long ∙ sym (same .other-long)) i) (passing-used (planOf chart) (chart-sound bytes chart read) one other same i) (unmarked-same i) (total-same (λ T. lowTotal (planOf chart) T figures) i) (total-same (λ T. highTotal (planOf chart) T figures) i))
       ∙ sym (totals-accepted bytes chart other figures read)

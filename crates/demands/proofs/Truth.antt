@@ -2,7 +2,6 @@
 use Prim.Native.Nat.{ℕ, zero, suc, _<_}
 use mathlib.Core.Bool.{Bool, true, false}
 use mathlib.Core.List.{List, [], _∷_}
-use mathlib.Core.Logic.{⊎-elim}
 use mathlib.Core.Path.{_≡_, refl, sym, ap, _∙_, subst}
 use native.Mathlib.Omega.{arith}
 use lib.Dec.{eqb}
@@ -11,29 +10,32 @@ use Rattle.chart.specs.Record.{Touch}
 use Rattle.chart.specs.Chart.{Chart, accepted, readChart, arrows, touches}
 use Rattle.chart.proofs.Accepted.{accepted-entry}
 use Rattle.cache.specs.Ages.{Ages, ageOf}
+use Rattle.kept.specs.Kept.{staysBy}
 use Rattle.flow.specs.Flow.{Cell, blank, holds, cellAt}
 use Rattle.flow.specs.Passing.{Marked, Passing}
 use Rattle.flow.specs.Walk.{Walk, AtTouches}
 use Rattle.flow.specs.Truths.{SaysOf, SaysAt}
 use Rattle.flow.proofs.Walking.{at-touches, walk-true, walk-begins, at-nodes}
-use Rattle.ages.specs.Plan.{ColumnTouch, columnsOf, touchesIn, afterTouch}
+use Rattle.ages.specs.Plan.{ColumnTouch, columnsOf}
 use Rattle.ages.specs.Charted.{columnTouch, planOf, agesFlow, touchedBy}
 use Rattle.ages.proofs.Charting.{touches-planned, onward-planned}
-use Rattle.classes.specs.Class.{classOf, nodeClass, CalledRight, unreached, none, classesBy, classesOf}
-use Rattle.classes.proofs.Calling.{class-cases, classes-mapped}
+use Rattle.classes.specs.Class.{Whole, wholeAt, wholeAfter, classOf, nodeClass, CalledRight, unreached, none, classesBy, classesOf}
+use Rattle.classes.proofs.Calling.{class-counts, classes-mapped}
 use Rattle.machine.specs.Machine.{plainMachine, Contents, AgesTrue}
+use Rattle.machine.specs.Keeping.{touchWhole}
 use Rattle.machine.proofs.Truth.{touch-true, touch-called, plan-truthful, start-true}
 use Rattle.costs.specs.Costs.{classesAt}
 use Rattle.tables.specs.Lent.{Lent, agesAt, tableOf}
 use Rattle.tables.proofs.Laid.{tableOf-at}
-use Rattle.demands.specs.Demand3.{SaysTrue, TouchRight, AtEachNode}
+use Rattle.demands.specs.Demand3.{wholeIn, SaysTrue, TouchRight, AtEachNode}
 use Rattle.demands.specs.Inner.{touchClass, RightHere, Arrives}
 
 -- The classes of a node are those of its touches of blocks.
-pub classes-charted : (chart : Chart) (n : ℕ) → n < chart .header .nodes → (a : Ages) → classesAt (planOf chart) n a ≡ classesBy (touchClass chart) (touchedBy chart) (touches chart n) a
+pub classes-charted : (chart : Chart) (n : ℕ) → n < chart .header .nodes → (a : Ages)
+    → classesAt (planOf chart) n a ≡ classesBy (touchClass chart) (touchWhole chart) (touches chart n) (wholeAt (planOf chart) n a)
 classes-charted chart n h a =
-    ap (λ (ts : List ColumnTouch). classesOf (planOf chart) ts a) (touches-planned chart n h)
-    ∙ classes-mapped (columnTouch chart) (classOf (planOf chart)) (afterTouch (planOf chart)) (touches chart n) a
+    ap (λ (ts : List ColumnTouch). classesOf (planOf chart) ts (wholeAt (planOf chart) n a)) (touches-planned chart n h)
+    ∙ classes-mapped (columnTouch chart) (classOf (planOf chart)) (wholeAfter (planOf chart)) (touches chart n) (wholeAt (planOf chart) n a)
 
 module _ (bytes : List ℕ) (chart : Chart) (read : readChart bytes ≡ accepted chart) (table : Lent) (passing : Passing (agesFlow chart) (tableOf (planOf chart) table)) where
   -- What the table says at a node is true: the node is marked, and its row bounds the ages there.
@@ -64,14 +66,14 @@ module _ (bytes : List ℕ) (chart : Chart) (read : readChart bytes ≡ accepted
       (onward-planned bytes chart read (chart .header .entry) entry-in ts walk))
 
   module _ (n : ℕ) (contents : Contents chart) (arrived : Arrives chart table n contents) where
-    pub touches-called : AtTouches (touchedBy chart) (plainMachine chart .act) (TouchRight chart) (touches chart n) (agesAt (planOf chart) table n) contents
+    pub touches-called : AtTouches (touchWhole chart) (plainMachine chart .act) (TouchRight chart) (touches chart n) (wholeIn chart table n) contents
     touches-called =
-        at-touches (touchedBy chart) (plainMachine chart .act) (AgesTrue chart) (TouchRight chart) (touches chart n)
-        (touch-true bytes chart read n (arrived .inside)) (touch-called bytes chart read n (arrived .inside)) (agesAt (planOf chart) table n) contents (arrived .bounds)
+        at-touches (touchWhole chart) (plainMachine chart .act) (λ whole. AgesTrue chart (whole .ages)) (TouchRight chart) (touches chart n)
+        (λ t among whole c. touch-true bytes chart read n (arrived .inside) t among (whole .ages) c) (touch-called bytes chart read n (arrived .inside)) (wholeIn chart table n) contents (arrived .bounds)
 
     -- The classes that the table has for the node.
     abbrev classes : List ℕ
-    classes = classesBy (touchClass chart) (touchedBy chart) (touches chart n) (agesAt (planOf chart) table n)
+    classes = classesBy (touchClass chart) (touchWhole chart) (touches chart n) (wholeIn chart table n)
 
     class-is : (k : ℕ) → nodeClass (planOf chart) n k (cellAt (tableOf (planOf chart) table) n) ≡ getD classes k none
     class-is k =
@@ -80,13 +82,13 @@ module _ (bytes : List ℕ) (chart : Chart) (read : readChart bytes ≡ accepted
 
     module _ (made : List Touch) (all : touches chart n ≡ made) where
       -- The same by what the node is known to touch.
-      made-class : (k : ℕ) → getD (classesBy (touchClass chart) (touchedBy chart) made (agesAt (planOf chart) table n)) k none ≡ nodeClass (planOf chart) n k (cellAt (tableOf (planOf chart) table) n)
+      made-class : (k : ℕ) → getD (classesBy (touchClass chart) (touchWhole chart) made (wholeIn chart table n)) k none ≡ nodeClass (planOf chart) n k (cellAt (tableOf (planOf chart) table) n)
       made-class k =
-          sym (class-is k ∙ ap (λ (ts : List Touch). getD (classesBy (touchClass chart) (touchedBy chart) ts (agesAt (planOf chart) table n)) k none) all)
+          sym (class-is k ∙ ap (λ (ts : List Touch). getD (classesBy (touchClass chart) (touchWhole chart) ts (wholeIn chart table n)) k none) all)
 
-      made-called : AtTouches (touchedBy chart) (plainMachine chart .act) (TouchRight chart) made (agesAt (planOf chart) table n) contents
+      made-called : AtTouches (touchWhole chart) (plainMachine chart .act) (TouchRight chart) made (wholeIn chart table n) contents
       made-called =
-          subst (λ (ts : List Touch). AtTouches (touchedBy chart) (plainMachine chart .act) (TouchRight chart) ts (agesAt (planOf chart) table n) contents) all touches-called
+          subst (λ (ts : List Touch). AtTouches (touchWhole chart) (plainMachine chart .act) (TouchRight chart) ts (wholeIn chart table n) contents) all touches-called
 
     pub arrived-true : SaysTrue chart table n contents
     arrived-true =
@@ -104,14 +106,14 @@ module _ (bytes : List ℕ) (chart : Chart) (read : readChart bytes ≡ accepted
 
     -- A node that is arrived at is not called unreached.
     pub arrived-reached : (k : ℕ) → nodeClass (planOf chart) n k (cellAt (tableOf (planOf chart) table) n) ≡ unreached → ⊥
-    arrived-reached k e = go (touches chart n) (agesAt (planOf chart) table n) k (sym (class-is k) ∙ e)
+    arrived-reached k e = go (touches chart n) (wholeIn chart table n) k (sym (class-is k) ∙ e)
       where
-        go : (ts : List Touch) (a : Ages) (i : ℕ) → getD (classesBy (touchClass chart) (touchedBy chart) ts a) i none ≡ unreached → ⊥
-        go [] a i q = omega arith
-        go (touch ∷ ts) a zero q =
-            ⊎-elim (λ h. omega arith) (λ later. ⊎-elim (λ h. omega arith) (λ h. omega arith) later)
-            (class-cases (columnsOf (planOf chart) .mustLimit (columnTouch chart touch .column)) (ageOf (a .must) (columnTouch chart touch .column)) (ageOf (a .may) (columnTouch chart touch .column)))
-        go (touch ∷ ts) a (suc i) q = go ts (touchedBy chart touch a) i q
+        go : (ts : List Touch) (whole : Whole) (i : ℕ) → getD (classesBy (touchClass chart) (touchWhole chart) ts whole) i none ≡ unreached → ⊥
+        go [] whole i q = omega arith
+        go (touch ∷ ts) whole zero q =
+            let column = columnTouch chart touch .column in
+            class-counts (columnsOf (planOf chart) .mustLimit column) (ageOf (whole .ages .must) column) (ageOf (whole .ages .may) column) (staysBy (planOf chart) column (whole .since column)) .0 q
+        go (touch ∷ ts) whole (suc i) q = go ts (touchWhole chart touch whole) i q
 
     abbrev pub arrived-right : RightHere chart table n contents
     arrived-right =

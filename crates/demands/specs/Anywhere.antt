@@ -1,6 +1,6 @@
 -- What is so at every node, place, length and number, however large. Soundings are of small charts: a rule that changes from some number on, in
 -- definition and code alike, would pass them all. The limits stand here as numbers, and not by name. Rules 1.4, 3.3, 6.3 to 6.5, 8.1, 8.2, 10.2,
--- 10.3, 11.0, 12.2, 13.1 to 13.3, 14.1, 14.2, 14.4, 15.2 and 15.5. `anywhere` in proofs/Anywhere.antt proves it.
+-- 10.3, 11.0, 12.2, 13.1 to 13.3, 14.1, 14.2, 14.4, 15.2, 15.5, 16.3 and 16.4. `anywhere` in proofs/Anywhere.antt proves it.
 use Prim.Native.Nat.{ℕ, suc, _+_, _*_, _/_, _%_, _≤_, _<_}
 use mathlib.Core.List.{List, [], _∷_, _++_}
 use mathlib.Core.Path.{_≡_}
@@ -16,7 +16,9 @@ use Rattle.flow.specs.Flow.{Cell, blank, holds, cellAt}
 use Rattle.cache.specs.Ages.{Ages, touchAges}
 use Rattle.ages.specs.Plan.{ColumnTouch, Plan, columnsOf, touchesIn, planFlow}
 use Rattle.layout.specs.Rows.{rowAt}
-use Rattle.classes.specs.Class.{classOf, nodeClass, tableClasses}
+use Rattle.kept.specs.Since.{Since, touchSince}
+use Rattle.kept.specs.Kept.{sinceAt, keptFlow}
+use Rattle.classes.specs.Class.{Whole, classOf, nodeClass, tableClasses}
 use Rattle.costs.specs.Costs.{visitCost, classesAt}
 use Rattle.tables.specs.Contract.{entryTable}
 use Rattle.analysis.specs.declared.Analysed.{Analysed}
@@ -30,6 +32,17 @@ use Rattle.report.specs.Ending.{refusedBy, refuses}
 -- Rules 1.4 and 13.2: what the analysis leaves of an input in the program's buffers, under the program's allowance.
 abbrev pub programLeft : List ℕ → Left
 programLeft input = analysed (taken input) 1049601 (zeroBuffers 1024 64)
+
+-- Rule 8.2: what classes go by on arrival at a node, and after its first touch.
+abbrev pub arrived : Plan → ℕ → Ages → Whole
+arrived plan n a = record { ages = a; since = λ column. sinceAt plan n column }
+
+abbrev pub touchedOnce : Plan → ℕ → ColumnTouch → Ages → Whole
+touchedOnce plan n touch a =
+    record {
+      ages = touchAges (columnsOf plan) (touch .column) a;
+      since = λ column. touchSince (columnsOf plan) column (touch .column) (sinceAt plan n column);
+    }
 
 pub record Anywhere : Type 0 where
   -- rules 1.4 and 13.1
@@ -61,19 +74,19 @@ pub record Anywhere : Type 0 where
   pub class-of-none : (plan : Plan) (n k : ℕ) (a : Ages) → touchesIn plan n ≡ [] → nodeClass plan n k (holds a) ≡ 4
   pub class-of-touch : (plan : Plan) (n : ℕ) (a : Ages) (touch : ColumnTouch)
       → touchesIn plan n ≡ touch ∷ []
-      → (nodeClass plan n 0 (holds a) ≡ classOf plan touch a) × (nodeClass plan n 1 (holds a) ≡ 4)
+      → (nodeClass plan n 0 (holds a) ≡ classOf plan touch (arrived plan n a)) × (nodeClass plan n 1 (holds a) ≡ 4)
   pub class-of-two : (plan : Plan) (n : ℕ) (a : Ages) (touch other : ColumnTouch)
       → touchesIn plan n ≡ touch ∷ other ∷ []
-      → (nodeClass plan n 0 (holds a) ≡ classOf plan touch a) × (nodeClass plan n 1 (holds a) ≡ classOf plan other (touchAges (columnsOf plan) (touch .column) a))
+      → (nodeClass plan n 0 (holds a) ≡ classOf plan touch (arrived plan n a)) × (nodeClass plan n 1 (holds a) ≡ classOf plan other (touchedOnce plan n touch a))
   -- rules 10.2 and 10.3: what a visit of a node counts, whichever node it is
   pub cost-unmarked : (plan : Plan) (n : ℕ) (rate : ℕ → ℕ) → visitCost (classesAt plan n) rate blank ≡ 0
   pub cost-of-none : (plan : Plan) (n : ℕ) (a : Ages) (rate : ℕ → ℕ) → touchesIn plan n ≡ [] → visitCost (classesAt plan n) rate (holds a) ≡ 0
   pub cost-of-touch : (plan : Plan) (n : ℕ) (a : Ages) (rate : ℕ → ℕ) (touch : ColumnTouch)
       → touchesIn plan n ≡ touch ∷ []
-      → visitCost (classesAt plan n) rate (holds a) ≡ rate (classOf plan touch a)
+      → visitCost (classesAt plan n) rate (holds a) ≡ rate (classOf plan touch (arrived plan n a))
   pub cost-of-two : (plan : Plan) (n : ℕ) (a : Ages) (rate : ℕ → ℕ) (touch other : ColumnTouch)
       → touchesIn plan n ≡ touch ∷ other ∷ []
-      → visitCost (classesAt plan n) rate (holds a) ≡ rate (classOf plan touch a) + rate (classOf plan other (touchAges (columnsOf plan) (touch .column) a))
+      → visitCost (classesAt plan n) rate (holds a) ≡ rate (classOf plan touch (arrived plan n a)) + rate (classOf plan other (touchedOnce plan n touch a))
   -- rules 3.3 and 6.3 to 6.5: what a node does to the ages, whichever node it is
   pub bare-step : (plan : Plan) (n : ℕ) (a : Ages) → touchesIn plan n ≡ [] → planFlow plan .step n a ≡ a
   pub one-touch : (plan : Plan) (n : ℕ) (a : Ages) (touch : ColumnTouch)
@@ -82,6 +95,14 @@ pub record Anywhere : Type 0 where
   pub two-touches : (plan : Plan) (n : ℕ) (a : Ages) (touch other : ColumnTouch)
       → touchesIn plan n ≡ touch ∷ other ∷ []
       → planFlow plan .step n a ≡ touchAges (columnsOf plan) (other .column) (touchAges (columnsOf plan) (touch .column) a)
+  -- rules 16.3 and 16.4: what a node does to what is held of a block, whichever they are
+  pub kept-bare : (plan : Plan) (column n : ℕ) (since : Since) → touchesIn plan n ≡ [] → keptFlow plan column .step n since ≡ since
+  pub kept-one : (plan : Plan) (column n : ℕ) (since : Since) (touch : ColumnTouch)
+      → touchesIn plan n ≡ touch ∷ []
+      → keptFlow plan column .step n since ≡ touchSince (columnsOf plan) column (touch .column) since
+  pub kept-two : (plan : Plan) (column n : ℕ) (since : Since) (touch other : ColumnTouch)
+      → touchesIn plan n ≡ touch ∷ other ∷ []
+      → keptFlow plan column .step n since ≡ touchSince (columnsOf plan) column (other .column) (touchSince (columnsOf plan) column (touch .column) since)
   -- rules 12.2, 15.2 and 15.5: what is written over the start of a buffer, place by place, and what stays
   pub written-start : (new lent : List ℕ) (k : ℕ) → k < length new → getD (written new lent) k 0 ≡ getD new k 0
   pub written-tail : (new lent : List ℕ) (k : ℕ) → length new ≤ k → getD (written new lent) k 0 ≡ getD lent k 0

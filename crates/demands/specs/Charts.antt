@@ -36,13 +36,13 @@ loopChart =
     ∷ 0x40 ∷ 0x00 ∷ 0x00 ∷ 0x00 ∷ 0x00 ∷ 0x00 ∷ 0x00 ∷ 0x00
     ∷ []
 
--- Its report, a line here for each of its lines: three nodes, one block, two passes; the first node none none, the next unsure none, the last
+-- Its report, a line here for each of its lines: three nodes, one block, two passes; the first node none none, the next kept none, the last
 -- hit none.
 abbrev pub loopReport : List ℕ
 loopReport =
     110 ∷ 111 ∷ 100 ∷ 101 ∷ 115 ∷ 32 ∷ 51 ∷ 32 ∷ 98 ∷ 108 ∷ 111 ∷ 99 ∷ 107 ∷ 115 ∷ 32 ∷ 49 ∷ 32 ∷ 112 ∷ 97 ∷ 115 ∷ 115 ∷ 101 ∷ 115 ∷ 32 ∷ 50 ∷ 10
     ∷ 48 ∷ 32 ∷ 110 ∷ 111 ∷ 110 ∷ 101 ∷ 32 ∷ 110 ∷ 111 ∷ 110 ∷ 101 ∷ 10
-    ∷ 49 ∷ 32 ∷ 117 ∷ 110 ∷ 115 ∷ 117 ∷ 114 ∷ 101 ∷ 32 ∷ 110 ∷ 111 ∷ 110 ∷ 101 ∷ 10
+    ∷ 49 ∷ 32 ∷ 107 ∷ 101 ∷ 112 ∷ 116 ∷ 32 ∷ 110 ∷ 111 ∷ 110 ∷ 101 ∷ 10
     ∷ 50 ∷ 32 ∷ 104 ∷ 105 ∷ 116 ∷ 32 ∷ 110 ∷ 111 ∷ 110 ∷ 101 ∷ 10
     ∷ []
 

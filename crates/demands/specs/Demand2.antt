@@ -4,21 +4,28 @@
 -- (The ages are those of that analysis: `published`, of the definitions in cache/specs/Ages.antt, here over columns whose keys stand for their
 -- blocks' sets, as `keys-sets` and `sets-keys` say, in the shape that the bytes say, `shape-said`. That the analysis is refused only as rule 12.3
 -- lists is `Demand1.readings` and `Demand1.analysis`.)
--- It speaks of rules 1.2, 3.2, 3.3, 4.6, 4.7, 6.2 to 6.6, 7.3, 7.7 to 7.9, 8.1, 9.5, 9.6, 12.2, 12.4, 12.5 and 13.1 to 13.3. Proved as
+-- The sets of blocks that stay are worked out one block at a time: each of these tables settles, passes its own equations, is the tightest of those that
+-- do, and has what walks do and nothing else (`kept-settled`).
+-- It speaks of rules 1.2, 2.4, 3.2, 3.3, 4.6, 4.7, 6.2 to 6.6, 7.3, 7.7 to 7.9, 8.1, 9.5, 9.6, 12.2, 12.4, 12.5, 13.1 to 13.3, 16.1 and 16.3 to 16.8. Proved as
 -- `demand2` in proofs/Demand2.antt.
 use Prim.Native.Nat.{ℕ, suc, _+_, _*_, _%_, _^_, _≤_, _<_}
 use mathlib.Core.Path.{_≡_}
 use mathlib.Core.Bool.{true, false}
-use mathlib.Core.List.{List}
+use mathlib.Core.List.{List, map}
 use Rattle.chart.specs.Geometry.{mostNodes, mostBlocks, allPasses}
 use Rattle.chart.specs.Chart.{Chart, accepted, readChart, touches, arrows, blockCount}
-use Rattle.flow.specs.Flow.{cellAt}
-use Rattle.flow.specs.Passing.{Marked, Tightest}
-use Rattle.flow.specs.Pass.{pass, afterPasses}
+use Rattle.flow.specs.Flow.{cellAt, Table}
+use Rattle.flow.specs.Passing.{Marked, Passing, Tightest}
+use Rattle.flow.specs.Pass.{settled, settle, pass, afterPasses}
 use Rattle.flow.specs.Walk.{inTurn, Reached}
 use Rattle.chart.specs.Bytes.{AreBytes, headerBytes}
-use Rattle.ages.specs.Plan.{columnsOf}
-use Rattle.ages.specs.Charted.{blockAt, setAt, keyAt, planOf, agesFlow, touchedBy, mostPasses}
+use Rattle.lists.specs.Lists.{Among}
+use Rattle.chart.specs.Record.{Touch}
+use Rattle.ages.specs.Plan.{columnsOf, touchesIn, arrowsIn}
+use Rattle.ages.specs.Charted.{blockAt, setAt, keyAt, columnTouch, planOf, agesFlow, touchedBy, mostPasses}
+use Rattle.kept.specs.Since.{Since}
+use Rattle.kept.specs.Kept.{afterTouchOf, keptFlow, keptTable}
+use Rattle.kept.specs.Walked.{Walked}
 use Rattle.cache.specs.Ages.{Ages}
 use Rattle.cache.specs.Plain.{Cache, Formed, emptyCache}
 use Rattle.cache.specs.Published.{AsPublished}
@@ -73,12 +80,44 @@ pub record ShapeSaid (bytes : List ℕ) (chart : Chart) : Type 0 where
   pub empty-begins : headerBytes bytes .start ≡ 1 → plainMachine chart .Begins emptyCache
   pub most-passes : mostPasses chart ≡ chart .header .nodes * (1 + 2 * blockCount chart * headerBytes bytes .ways) + 1
 
+-- Rules 2.4, 3.2 and 3.3: a plan has what its chart has, node by node and column by column, and a touch's column is that of its block.
+pub record Planned (chart : Chart) : Type 0 where
+  pub entry-is : planOf chart .entry ≡ chart .header .entry
+  pub nodes-are : planOf chart .nodes ≡ chart .header .nodes
+  pub blocks-are : planOf chart .blocks ≡ blockCount chart
+  pub arrows-are : (n : ℕ) → n < chart .header .nodes → arrowsIn (planOf chart) n ≡ arrows chart n
+  pub touches-are : (n : ℕ) → n < chart .header .nodes → touchesIn (planOf chart) n ≡ map (columnTouch chart) (touches chart n)
+  pub keys-are : (column : ℕ) → column < blockCount chart → columnsOf (planOf chart) .key column ≡ keyAt chart column
+  pub columns-hold : (n : ℕ)
+      → n < chart .header .nodes
+      → (touch : Touch)
+      → Among touch (touches chart n)
+      → (columnTouch chart touch .column < blockCount chart) × (blockAt chart (columnTouch chart touch .column) ≡ touch .block)
+
+-- What holds of the table of one block of a chart, known by its column.
+pub record KeptSettles (chart : Chart) (column : ℕ) : Type 0 where
+  -- rule 16.7: its own passes settle there, and never need more than 65N + 1
+  pub passes : ℕ
+  pub settles : settle (keptFlow (planOf chart) column) (65 * chart .header .nodes + 1) ≡ settled passes (keptTable (planOf chart) column)
+  pub count : (allowance made : ℕ) (table : Table (keptFlow (planOf chart) column))
+      → settle (keptFlow (planOf chart) column) allowance ≡ settled made table
+      → made ≤ 65 * chart .header .nodes + 1
+  pub made : 0 < passes
+  pub last : (k : ℕ) → suc k ≡ passes → pass (keptFlow (planOf chart) column) (afterPasses (keptFlow (planOf chart) column) k) .changed ≡ false
+  pub earlier : (k : ℕ) → suc k < passes → pass (keptFlow (planOf chart) column) (afterPasses (keptFlow (planOf chart) column) k) .changed ≡ true
+  -- rule 16.6: it passes its own equations, and is the tightest of those that do
+  pub table-passes : Passing (keptFlow (planOf chart) column) (keptTable (planOf chart) column)
+  pub tightest : Tightest (keptFlow (planOf chart) column) (keptTable (planOf chart) column)
+  -- rules 16.1 and 16.8: at each node it has what walks to that node do, and nothing else
+  pub walked : (n : ℕ) → Walked (planOf chart) column n
+
 pub record Demand2 : Type 0 where
   -- rules 6.2 to 6.4, 6.6 and 8.1: the ages are those of the published analysis
   pub published : AsPublished
   -- rules 3.3 and 6.5: touch by touch, the state after a node is that after all its touches
   pub touch-by-touch : (chart : Chart) (n : ℕ) → n < chart .header .nodes → (a : Ages) → agesFlow chart .step n a ≡ inTurn (touchedBy chart) (touches chart n) a
   pub shape-said : (bytes : List ℕ) (chart : Chart) → AreBytes bytes → readChart bytes ≡ accepted chart → ShapeSaid bytes chart
+  pub planned : (bytes : List ℕ) (chart : Chart) → readChart bytes ≡ accepted chart → Planned chart
   -- two columns have one key exactly if their blocks are of one set (rule 3.2)
   pub keys-sets : (chart : Chart) (i j : ℕ) → keyAt chart i ≡ keyAt chart j → setAt chart i ≡ setAt chart j
   pub sets-keys : (chart : Chart) (i j : ℕ) → setAt chart i ≡ setAt chart j → keyAt chart i ≡ keyAt chart j
@@ -116,3 +155,14 @@ pub record Demand2 : Type 0 where
       → analysed bytes one lent .answer ≡ Settled passes blocks
       → analysed bytes other lent .answer ≡ Settled passes′ blocks′
       → analysed bytes one lent ≡ analysed bytes other lent
+  -- rules 16.3 and 16.4: touch by touch, what is held of a block after a node is that after all its touches
+  pub kept-touch-by-touch : (chart : Chart) (column n : ℕ)
+      → n < chart .header .nodes
+      → (since : Since)
+      → keptFlow (planOf chart) column .step n since
+      ≡ inTurn (λ touch. afterTouchOf (planOf chart) column (columnTouch chart touch)) (touches chart n) since
+  -- rules 16.6 and 16.7: the table of each block
+  pub kept-settled : (bytes : List ℕ) (chart : Chart) (column : ℕ)
+      → readChart bytes ≡ accepted chart
+      → column < blockCount chart
+      → KeptSettles chart column

@@ -10,8 +10,9 @@
 -- there counts as the oldest.
 --
 -- A *table* marks the nodes that a walk can come to, and perhaps more; for each of them and each block it has two ages: when a walk comes
--- there, the block is no older than the one and no younger than the other. From them each touch of a node is called a hit, a miss, or
--- unsure, the second by what the first leaves of them. The *analysis* makes such a table; the *checker* tries one that anybody made. For each node
+-- there, the block is no older than the one and no younger than the other. From them each touch of a node is called a hit or a miss, the second by
+-- what the first leaves of them. Where they leave it open, it goes by the other blocks of its set that walks have touched since their last touch of its
+-- block: if these are fewer than the set has ways it is called *kept*, and else unsure. The *analysis* makes such a table; the *checker* tries one that anybody made. For each node
 -- the caller says how often a walk visits it, no less than a *floor* and no more than a *ceiling*; what a walk then costs lies between the two
 -- *totals*. A caller lends *buffers*, as long as it likes, for a function to read or to fill. Where a function cannot answer it gives a *refusal*,
 -- a number by rules 11.0 to 11.17, with the node at fault.
@@ -24,10 +25,12 @@
 --
 -- 2. It says as much as can be said. The checker passes a table exactly if it keeps rules 7.2 to 7.6, which are the equations of ages. Where the
 --    analysis is not refused (and 1 says where it is), its table passes, and no table that passes says more. A tool that called
---    everything unsure would break this demand.                                          `demand2` in proofs/Demand2.antt
+--    everything unsure would break this demand. What a touch is called kept by is worked out one block at a time, and is just what walks
+--    do.                                                                                 `demand2` in proofs/Demand2.antt
 --
 -- 3. What it says is so. Take any table that the checker passes, whoever made it; any walk; and whatever the cache held before, as far as
---    the chart allows it. At every touch, where a hit was called the plain machine hits, and where a miss was called it misses. And if a
+--    the chart allows it. At every touch, where a hit was called the plain machine hits, and where a miss was called it misses; and of all
+--    touches of one block that are called kept, one at most misses on the whole walk. And if a
 --    miss costs no less than a hit, and each node has a floor and a ceiling that the walk keeps to, then the totals are given, and what
 --    the plain machine pays on that walk is no less than the low one and no more than the high one.
 --                                                                                        `demand3` in proofs/Demand3.antt

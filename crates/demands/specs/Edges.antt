@@ -1,7 +1,8 @@
 -- Soundings at edges where a wrong rule of analysis, machine, checker, totals or report would show and nowhere else: tails behind what is
 -- used, a chart without blocks in buffers without places, the largest costs, classes by ages of eight ways, marks after each pass, a report
--- of two-digit nodes. Nothing here is a rule of the tool: it is what rules 7.3, 8.1, 9.1 to 9.4, 10.2, 10.3, 12.2, 12.3 and 14.1 to 14.4 come to.
+-- of two-digit nodes. Nothing here is a rule of the tool: it is what rules 7.3, 8.1, 9.1 to 9.4, 10.2 to 10.4, 12.2, 12.3 and 14.1 to 14.4 come to.
 use Prim.Native.Nat.{ℕ}
+use mathlib.Core.Bool.{true, false}
 use mathlib.Core.List.{List, [], _∷_, _++_}
 use lib.ListN.{replicate}
 use Rattle.lists.specs.Soundings.{Sounding, _reads_}
@@ -41,7 +42,7 @@ leftBehind =
     ∷ (withTails .must reads (2 ∷ 2 ∷ 0 ∷ 7 ∷ []))
     ∷ (withTails .may reads (2 ∷ 0 ∷ 0 ∷ 7 ∷ []))
     ∷ (withTails .marks reads (1 ∷ 1 ∷ 1 ∷ 7 ∷ []))
-    ∷ (withTails .classes reads (4 ∷ 4 ∷ 3 ∷ 4 ∷ 1 ∷ 4 ∷ 7 ∷ []))
+    ∷ (withTails .classes reads (4 ∷ 4 ∷ 5 ∷ 4 ∷ 1 ∷ 4 ∷ 7 ∷ []))
     -- nothing has changed after 11 and 1
     ∷ ((untouched .blocks ++ untouched .must ++ untouched .may ++ untouched .marks ++ untouched .classes) reads replicate 19 7)
     ∷ ((unread .blocks ++ unread .must ++ unread .may ++ unread .marks ++ unread .classes) reads replicate 5 7)
@@ -70,7 +71,7 @@ edges =
     (classesLeft 5 3 rewritten reads alone (2 ∷ 2 ∷ 1 ∷ 2 ∷ 2 ∷ []))
     ∷ ((costOf (chartIn rewritten) 1 10 (1 ∷ 2 ∷ 3 ∷ 4 ∷ []) emptyCache ∷ []) reads (41 ∷ []))
     -- eight ways: must age 7 is a hit, may age 7 no miss
-    ∷ ((classBy 8 7 0 ∷ classBy 8 7 8 ∷ classBy 8 8 8 ∷ classBy 8 8 7 ∷ []) reads (1 ∷ 1 ∷ 2 ∷ 3 ∷ []))
+    ∷ ((classBy 8 7 0 true ∷ classBy 8 7 8 true ∷ classBy 8 8 8 true ∷ classBy 8 8 7 true ∷ classBy 8 8 7 false ∷ []) reads (1 ∷ 1 ∷ 2 ∷ 5 ∷ 3 ∷ []))
     -- one arrow further with each pass
     ∷ (marksAfter 0 reads (0 ∷ 0 ∷ 1 ∷ []))
     ∷ (marksAfter 1 reads (1 ∷ 0 ∷ 1 ∷ []))
@@ -80,7 +81,7 @@ edges =
     ∷ (checking stopped (three (2 ∷ 2 ∷ 2 ∷ []) (2 ∷ 0 ∷ 0 ∷ []) (1 ∷ 1 ∷ 1 ∷ [])) reads (0 ∷ 1 ∷ []))
     -- the largest costs and ceilings: one miss and ten hits, and sums above 2^32
     ∷ ((costOf loop 65534 65535 tenTurns emptyCache ∷ []) reads (720875 ∷ []))
-    ∷ (totalling loopChart loopTable (figuresWith 65534 65535 (1 ∷ 1 ∷ 1 ∷ []) (1 ∷ 65535 ∷ 65535 ∷ [])) reads (0 ∷ 0 ∷ 131068 ∷ 8589606915 ∷ []))
+    ∷ (totalling loopChart loopTable (figuresWith 65534 65535 (1 ∷ 1 ∷ 1 ∷ []) (1 ∷ 65535 ∷ 65535 ∷ [])) reads (0 ∷ 0 ∷ 131068 ∷ 8589541381 ∷ []))
     -- each digit
     ∷ (decimal 9758 reads (57 ∷ 55 ∷ 53 ∷ 56 ∷ []))
     ∷ (decimal 1234567890 reads (49 ∷ 50 ∷ 51 ∷ 52 ∷ 53 ∷ 54 ∷ 55 ∷ 56 ∷ 57 ∷ 48 ∷ []))

@@ -21,10 +21,13 @@ use Rattle.analysis.specs.Analysis.{Buffers, analysed, analyseSays}
 use Rattle.machine.specs.Machine.{costOf}
 use Rattle.report.specs.Report.{report}
 use Rattle.demands.specs.Charts.{loopChart}
-use Rattle.demands.specs.Soundings.{loop, tenTurns}
+use Rattle.demands.specs.Soundings.{alone, loop, tenTurns}
 use Rattle.demands.specs.Corners.{shape}
 use Rattle.demands.specs.Refused.{sevens}
 use Rattle.demands.specs.Tabled.{checking, three, younger}
+use Rattle.demands.specs.Shared.{classesLeft}
+use Rattle.demands.specs.Straddling.{headed}
+use Rattle.demands.specs.Staying.{stepTo, readBlock}
 
 -- 1 for yes, 0 for no.
 abbrev pub asNumber : Bool → ℕ
@@ -48,6 +51,10 @@ settledLoop = analysed loopChart allPasses (sevens 4 4 4 4 7) .buffers
 -- 9,000 bytes: a header of the most nodes, and zeros.
 abbrev pub tooLong : List ℕ
 tooLong = 0x01 ∷ 0x40 ∷ 0x24 ∷ 0x00 ∷ (mostNodes / 16) ∷ (mostNodes % 16 * 16) ∷ 0x00 ∷ 0x00 ∷ replicate 8992 0
+
+-- One set, empty: node 0 reads 0x00 and leads to 1 and 2, node 1 reads 0x10 and leads back, node 2 is a step that leads back.
+abbrev pub pastAnother : ℕ → List ℕ
+pastAnother ways = headed 3 0 ways 1 ++ readBlock 0 (1 ∷ 2 ∷ []) ++ readBlock 1 (0 ∷ []) ++ stepTo (0 ∷ [])
 
 -- All of them, in the order of the page.
 abbrev pub examples : List Sounding
@@ -80,7 +87,7 @@ examples =
     ∷ (readOut (set (set loopChart 24 0xC0) 0 0x02) reads (2 ∷ 0 ∷ 0 ∷ []))
     -- section 12: settled, with the answer; refused 12, with the answer
     ∷ ((settledLoop .blocks ++ settledLoop .must ++ settledLoop .may) reads (0 ∷ 7 ∷ 7 ∷ 7 ∷ 2 ∷ 2 ∷ 0 ∷ 7 ∷ 2 ∷ 0 ∷ 0 ∷ 7 ∷ []))
-    ∷ ((settledLoop .marks ++ settledLoop .classes) reads (1 ∷ 1 ∷ 1 ∷ 7 ∷ 4 ∷ 4 ∷ 3 ∷ 4 ∷ 1 ∷ 4 ∷ 7 ∷ []))
+    ∷ ((settledLoop .marks ++ settledLoop .classes) reads (1 ∷ 1 ∷ 1 ∷ 7 ∷ 4 ∷ 4 ∷ 5 ∷ 4 ∷ 1 ∷ 4 ∷ 7 ∷ []))
     ∷ ((analyseSays loopChart allPasses (sevens 4 4 4 4 7) .passes ∷ analyseSays loopChart allPasses (sevens 4 4 4 4 7) .blocks ∷ []) reads (2 ∷ 1 ∷ []))
     ∷ ((onePass .blocks ++ onePass .must ++ onePass .may) reads (0 ∷ 7 ∷ 7 ∷ 7 ∷ 0 ∷ 0 ∷ 0 ∷ 7 ∷ 0 ∷ 0 ∷ 0 ∷ 7 ∷ []))
     ∷ ((onePass .marks ++ onePass .classes) reads (0 ∷ 0 ∷ 0 ∷ 7 ∷ 0 ∷ 0 ∷ 0 ∷ 0 ∷ 0 ∷ 0 ∷ 7 ∷ []))
@@ -90,4 +97,6 @@ examples =
     -- section 15: node 1, and the loop's bytes
     ∷ (readNodeSays loopChart 1 .fields reads (1 ∷ 0 ∷ 0 ∷ 2 ∷ 1 ∷ 2 ∷ []))
     ∷ (loopBytes reads loopChart)
+    -- section 16: the loop's first class of node 1 is in section 12; a block that comes back past another, or not: one way, and two
+    ∷ ((classesLeft 3 2 (pastAnother 1) ++ classesLeft 3 2 (pastAnother 2)) reads alone (3 ∷ 2 ∷ 4 ∷ 5 ∷ 5 ∷ 4 ∷ []))
     ∷ []

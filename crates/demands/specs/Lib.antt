@@ -15,9 +15,11 @@ pub mod Sounded
 pub mod Shared
 pub mod Edges
 pub mod Straddling
+pub mod Staying
 pub mod Inner
 pub mod Examples
 pub mod Anywhere
 pub mod Leaving
 pub mod Paying
 pub mod Taking
+pub mod Sets

@@ -75,20 +75,20 @@ startedEmpty chart = readsBy chart (startAges (columnsOf (planOf chart)) true) (
 
 abbrev pub right : List Sounding
 right =
-    (classesFor (straightChart twoSetsOneWay 0x08) reads alone (3 ∷ 2 ∷ 2 ∷ []))
+    (classesFor (straightChart twoSetsOneWay 0x08) reads alone (5 ∷ 2 ∷ 2 ∷ []))
     ∷ (mustTouched row 2 reads (1 ∷ 1 ∷ 0 ∷ 3 ∷ 4 ∷ []))
     ∷ (mayTouched row 2 reads (1 ∷ 2 ∷ 0 ∷ 3 ∷ 4 ∷ []))
-    ∷ (classesFor entryLoopChart reads alone (3 ∷ []))
+    ∷ (classesFor entryLoopChart reads alone (5 ∷ []))
     ∷ (classesFor (straightChart oneSetTwoWaysEmpty 0x04) reads alone (2 ∷ 2 ∷ 1 ∷ []))
-    ∷ (classesFor (straightChart oneSetTwoWays 0x04) reads alone (3 ∷ 3 ∷ 1 ∷ []))
+    ∷ (classesFor (straightChart oneSetTwoWays 0x04) reads alone (5 ∷ 5 ∷ 1 ∷ []))
     ∷ []
 
 abbrev pub mistaken : List Sounding
 mistaken =
-    (swapped (chartIn (straightChart twoSetsOneWay 0x08)) reads alone (3 ∷ 3 ∷ 1 ∷ []))
+    (swapped (chartIn (straightChart twoSetsOneWay 0x08)) reads alone (5 ∷ 5 ∷ 1 ∷ []))
     ∷ (listOf 5 (mustAtH 2 (ageOf row)) reads (1 ∷ 2 ∷ 0 ∷ 3 ∷ 4 ∷ []))
     ∷ (listOf 5 (mayLeavingH 2 (ageOf row)) reads (1 ∷ 1 ∷ 0 ∷ 3 ∷ 4 ∷ []))
     ∷ (startForgotten (chartIn entryLoopChart) reads alone (1 ∷ []))
-    ∷ (zeroRowMet (chartIn (straightChart oneSetTwoWaysEmpty 0x04)) reads alone (2 ∷ 3 ∷ 1 ∷ []))
+    ∷ (zeroRowMet (chartIn (straightChart oneSetTwoWaysEmpty 0x04)) reads alone (2 ∷ 5 ∷ 1 ∷ []))
     ∷ (startedEmpty (chartIn (straightChart oneSetTwoWays 0x04)) reads alone (2 ∷ 2 ∷ 1 ∷ []))
     ∷ []

@@ -70,17 +70,17 @@ straightCost bytes = chainCost bytes (1 ∷ 2 ∷ [])
 
 abbrev pub sharedSoundings : List Sounding
 sharedSoundings =
-    -- writes of 0x00, 0x10, 0x00: unsure, unsure and hit in two ways, unsure, miss and miss in one
-    (classesFor (straightWrites oneSetTwoWays 0x04) reads alone (3 ∷ 3 ∷ 1 ∷ []))
-    ∷ (classesFor (straightWrites oneSetOneWay 0x04) reads alone (3 ∷ 2 ∷ 2 ∷ []))
+    -- writes of 0x00, 0x10, 0x00: kept, kept and hit in two ways, kept, miss and miss in one
+    (classesFor (straightWrites oneSetTwoWays 0x04) reads alone (5 ∷ 5 ∷ 1 ∷ []))
+    ∷ (classesFor (straightWrites oneSetOneWay 0x04) reads alone (5 ∷ 2 ∷ 2 ∷ []))
     -- a read after a write hits, and a write between two reads ages the block that was read
-    ∷ (classesFor (set (straightChart oneSetTwoWays 0x04) 8 0x80) reads alone (3 ∷ 3 ∷ 1 ∷ []))
-    ∷ (classesFor (set (straightChart oneSetOneWay 0x04) 16 0x80) reads alone (3 ∷ 2 ∷ 2 ∷ []))
+    ∷ (classesFor (set (straightChart oneSetTwoWays 0x04) 8 0x80) reads alone (5 ∷ 5 ∷ 1 ∷ []))
+    ∷ (classesFor (set (straightChart oneSetOneWay 0x04) 16 0x80) reads alone (5 ∷ 2 ∷ 2 ∷ []))
     -- the plain machine pays for writes as for reads
     ∷ ((straightCost (straightWrites oneSetTwoWaysEmpty 0x04) ∷ straightCost (straightWrites oneSetTwoWaysEmpty 0x00) ∷ []) reads (21 ∷ 12 ∷ []))
     -- a chart without block 0: blocks, classes, passes and B
     ∷ (after noBlockZero .blocks reads (5 ∷ 9 ∷ []))
-    ∷ (classesFor noBlockZero reads alone (3 ∷ 3 ∷ 1 ∷ []))
+    ∷ (classesFor noBlockZero reads alone (5 ∷ 5 ∷ 1 ∷ []))
     ∷ (counts noBlockZero reads (2 ∷ 2 ∷ []))
     -- one without any reference: no block is listed, every node is marked, each class is none, and nothing is paid
     ∷ (after noReference .blocks reads (0 ∷ 0 ∷ []))
@@ -94,10 +94,10 @@ sharedSoundings =
 abbrev pub shapeSoundings : List Sounding
 shapeSoundings =
     -- blocks 0 and 1 are of two sets, whatever the length of a line
-    (classesFor wideLines reads alone (3 ∷ 3 ∷ 1 ∷ []))
+    (classesFor wideLines reads alone (5 ∷ 5 ∷ 1 ∷ []))
     ∷ ((straightCost wideLines ∷ []) reads (21 ∷ []))
     -- five blocks stay in eight ways
-    ∷ (classesLeft 6 5 eightWays reads alone (3 ∷ 3 ∷ 3 ∷ 3 ∷ 3 ∷ 1 ∷ []))
+    ∷ (classesLeft 6 5 eightWays reads alone (5 ∷ 5 ∷ 5 ∷ 5 ∷ 5 ∷ 1 ∷ []))
     ∷ ((chainCost eightWays (1 ∷ 2 ∷ 3 ∷ 4 ∷ 5 ∷ []) ∷ []) reads (51 ∷ []))
     -- node 0 is taken before node 2, so that what 2 sends is seen in the pass after
     ∷ (counts fromTwo reads (3 ∷ 0 ∷ []))

@@ -3,7 +3,7 @@
 -- come to, so that a definition that says something else is found out.
 use mathlib.Core.Path.{_≡_}
 use Prim.Native.Nat.{ℕ, _*_, _≤_, _<_}
-use mathlib.Core.Bool.{true, false, cond}
+use mathlib.Core.Bool.{Bool, true, false, cond}
 use mathlib.Core.List.{List, [], _∷_, _++_, map}
 use lib.ListN.{length, getD}
 use Rattle.lists.specs.Soundings.{Hold}
@@ -25,6 +25,7 @@ use Rattle.report.specs.Report.{report}
 use Rattle.report.specs.Ending.{refuses, endingOf}
 use Rattle.chart.specs.Chart.{Chart}
 use Rattle.ages.specs.Plan.{Plan, planFlow}
+use Rattle.kept.specs.Kept.{keptFlow}
 use Rattle.classes.specs.Class.{classBy}
 use Rattle.machine.specs.Machine.{plainMachine, Contents, costOf}
 use Rattle.demands.specs.Demand3.{OnWalk, VisitsWithin, AtEachNode}
@@ -32,6 +33,7 @@ use Rattle.demands.specs.Anywhere.{Anywhere}
 use Rattle.demands.specs.Leaving.{Leaving}
 use Rattle.demands.specs.Paying.{Paying}
 use Rattle.demands.specs.Taking.{Taking}
+use Rattle.demands.specs.Sets.{Sets}
 use Rattle.demands.specs.Charts.{loopChart, loopReport}
 use Rattle.demands.specs.Soundings.{starred, after, loopFigures, loop, tenTurns}
 use Rattle.demands.specs.Refused.{damaged, unanalysed}
@@ -40,6 +42,7 @@ use Rattle.demands.specs.Corners.{corners, unknownStart, strangers}
 use Rattle.demands.specs.Shared.{sharedSoundings, shapeSoundings}
 use Rattle.demands.specs.Edges.{leftBehind, edges, elevenSteps, elevenReport}
 use Rattle.demands.specs.Straddling.{straddle, straddleReport, straddling, straddlingPaid}
+use Rattle.demands.specs.Staying.{stayingPasses, staying, stayingPaid, stayingApart}
 use Rattle.demands.specs.Mistakes.{right, mistaken}
 use Rattle.demands.specs.Examples.{examples}
 
@@ -59,9 +62,9 @@ pub record Sounded : Type 0 where
       → Walk arrows entry (ts ++ t ∷ [])
   -- where the contents are unknown, they may have blocks that the chart does not have (rule 4.7)
   pub strangers-begin : plainMachine unknownStart .Begins strangers
-  -- the loop chart's table passes, and its totals are 2 and 101: what the program `soundings` runs
+  -- the loop chart's table passes, and its totals are 2 and 20: what the program `soundings` runs
   pub loop-checked : checked loopChart (tableIn (after loopChart)) ≡ Yes
-  pub loop-totals : totals loopChart (tableIn (after loopChart)) loopFigures ≡ Between 2 101
+  pub loop-totals : totals loopChart (tableIn (after loopChart)) loopFigures ≡ Between 2 20
   -- the loop's report, whole, and the numbers that the program goes by (rules 1.4, 9.6, 13.1 and 13.2)
   pub sample-report : report loopChart ≡ loopReport
   pub longest-chart : longestChart ≡ 8200
@@ -72,6 +75,8 @@ pub record Sounded : Type 0 where
   pub left-at-any : Leaving
   pub paid-at-any : Paying
   pub taken-at-any : (plan : Plan) → Taking (planFlow plan)
+  pub kept-taken-at-any : (plan : Plan) (column : ℕ) → Taking (keptFlow plan column)
+  pub sets-at-any : Sets
   -- how the program ends (rule 13.3): which inputs are refused, and the status of a report and of a refusal, written whole and not
   pub sample-not-refused : refuses loopChart ≡ false
   pub no-bytes-refused : refuses [] ≡ true
@@ -96,10 +101,16 @@ pub record Sounded : Type 0 where
   pub straddling-hold : Hold straddling
   pub straddling-paid : Hold straddlingPaid
   pub straddle-report : report straddle ≡ straddleReport
-  -- a class, by any ages (rule 8.1)
-  pub hit-called : (limit must may : ℕ) → must < limit → classBy limit must may ≡ 1
-  pub miss-called : (limit must may : ℕ) → limit ≤ must → may ≡ limit → classBy limit must may ≡ 2
-  pub unsure-called : (limit must may : ℕ) → limit ≤ must → (may ≡ limit → ⊥) → classBy limit must may ≡ 3
+  -- blocks that stay, and what they cost
+  pub staying-passes : Hold stayingPasses
+  pub staying-hold : Hold staying
+  pub staying-paid : Hold stayingPaid
+  pub staying-apart : Hold stayingApart
+  -- a class, by any ages and any set (rule 8.1)
+  pub hit-called : (limit must may : ℕ) (stays : Bool) → must < limit → classBy limit must may stays ≡ 1
+  pub miss-called : (limit must may : ℕ) (stays : Bool) → limit ≤ must → may ≡ limit → classBy limit must may stays ≡ 2
+  pub kept-called : (limit must may : ℕ) → limit ≤ must → (may ≡ limit → ⊥) → classBy limit must may true ≡ 5
+  pub unsure-called : (limit must may : ℕ) → limit ≤ must → (may ≡ limit → ⊥) → classBy limit must may false ≡ 3
   -- the plain machine pays k times as much where both costs are k times as high
   pub cost-scales : (chart : Chart) (k hitCost missCost : ℕ) (ts : List ℕ) (contents : Contents chart)
       → costOf chart (k * hitCost) (k * missCost) ts contents ≡ k * costOf chart hitCost missCost ts contents
@@ -118,8 +129,8 @@ pub record Sounded : Type 0 where
   pub how-many : map length (chartFields ∷ nodeCounts ∷ twinArrows ∷ sizedTouches ∷ sizesRefused ∷ crowded ∷ [])
       ++ map length (nodesRead ∷ blocksListed ∷ loopWritten ∷ fieldsPacked ∷ headingsRefused ∷ nodesRefused ∷ ordered ∷ crowds ∷ [])
       ++ map length (starred ∷ damaged ∷ unanalysed ∷ unchecked ∷ looser ∷ untotalled ∷ summed ∷ corners ∷ sharedSoundings ∷ shapeSoundings ∷ [])
-      ++ map length (leftBehind ∷ edges ∷ straddling ∷ straddlingPaid ∷ right ∷ mistaken ∷ examples ∷ [])
+      ++ map length (leftBehind ∷ edges ∷ straddling ∷ straddlingPaid ∷ stayingPasses ∷ staying ∷ stayingPaid ∷ stayingApart ∷ right ∷ mistaken ∷ examples ∷ [])
       ≡ (9 ∷ 12 ∷ 22 ∷ 19 ∷ 11 ∷ 8 ∷ [])
       ++ (5 ∷ 5 ∷ 4 ∷ 1 ∷ 24 ∷ 31 ∷ 7 ∷ 2 ∷ [])
-      ++ (13 ∷ 26 ∷ 13 ∷ 13 ∷ 10 ∷ 20 ∷ 7 ∷ 16 ∷ 13 ∷ 6 ∷ [])
-      ++ (11 ∷ 12 ∷ 15 ∷ 11 ∷ 6 ∷ 6 ∷ 27 ∷ [])
+      ++ (13 ∷ 26 ∷ 13 ∷ 13 ∷ 10 ∷ 20 ∷ 8 ∷ 17 ∷ 13 ∷ 6 ∷ [])
+      ++ (11 ∷ 12 ∷ 15 ∷ 11 ∷ 2 ∷ 13 ∷ 6 ∷ 4 ∷ 6 ∷ 6 ∷ 28 ∷ [])

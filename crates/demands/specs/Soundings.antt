@@ -85,13 +85,13 @@ starred =
     ∷ (meeting (1 ∷ 3 ∷ []) (2 ∷ 4 ∷ []) .must reads (2 ∷ 4 ∷ []))
     ∷ (meeting (1 ∷ 3 ∷ []) (2 ∷ 4 ∷ []) .may reads (1 ∷ 3 ∷ []))
     -- rule 8.1: reads of 0x00, 0x10 and 0x00 in one set of two ways, unknown and empty, and of one way, unknown
-    ∷ (classesFor (straightChart oneSetTwoWays 0x04) reads alone (3 ∷ 3 ∷ 1 ∷ []))
+    ∷ (classesFor (straightChart oneSetTwoWays 0x04) reads alone (5 ∷ 5 ∷ 1 ∷ []))
     ∷ (classesFor (straightChart oneSetTwoWaysEmpty 0x04) reads alone (2 ∷ 2 ∷ 1 ∷ []))
-    ∷ (classesFor (straightChart oneSetOneWay 0x04) reads alone (3 ∷ 2 ∷ 2 ∷ []))
+    ∷ (classesFor (straightChart oneSetOneWay 0x04) reads alone (5 ∷ 2 ∷ 2 ∷ []))
     -- of 0x00, 0x20 and 0x00, unknown: two ways in one set, and one way in each of two
-    ∷ (classesFor (straightChart oneSetTwoWays 0x08) reads alone (3 ∷ 3 ∷ 1 ∷ []))
-    ∷ (classesFor (straightChart twoSetsOneWay 0x08) reads alone (3 ∷ 2 ∷ 2 ∷ []))
-    -- rules 10.2 and 10.3: the loop's totals; rule 5.3: what its ten turns cost
-    ∷ (loopTotals reads (2 ∷ 101 ∷ []))
+    ∷ (classesFor (straightChart oneSetTwoWays 0x08) reads alone (5 ∷ 5 ∷ 1 ∷ []))
+    ∷ (classesFor (straightChart twoSetsOneWay 0x08) reads alone (5 ∷ 2 ∷ 2 ∷ []))
+    -- rules 10.2 to 10.4: the loop's totals; rule 5.3: what its ten turns cost
+    ∷ (loopTotals reads (2 ∷ 20 ∷ []))
     ∷ ((costOf loop 1 10 tenTurns emptyCache ∷ []) reads (20 ∷ []))
     ∷ []

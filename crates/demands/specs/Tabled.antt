@@ -1,8 +1,8 @@
 -- What the checker and the totals answer for tables that are written out: their refusals, each alone and several at once, yes and no, and
--- the sums. Nothing here is a rule of the tool: it is what rules 7.2 to 7.7, 10.2, 10.3, 11.0, 11.11 and 11.13 to 11.17 come to.
+-- the sums. Nothing here is a rule of the tool: it is what rules 7.2 to 7.7, 10.2 to 10.4, 11.0, 11.11 and 11.13 to 11.17 come to.
 use Prim.Native.Nat.{ℕ}
 use mathlib.Core.List.{List, [], _∷_}
-use lib.ListN.{set, take}
+use lib.ListN.{set, take, replicate}
 use Rattle.lists.specs.Soundings.{Sounding, _reads_}
 use Rattle.tables.specs.Lent.{Lent}
 use Rattle.analysis.specs.Analysis.{tableIn}
@@ -98,7 +98,7 @@ figuresWith hit miss floors ceilings =
 -- What the totals say of the loop chart: each refusal on one side of its mark and on the other, and several at once.
 abbrev pub untotalled : List Sounding
 untotalled =
-    (totalling loopChart loopTable loopFigures reads (0 ∷ 0 ∷ 2 ∷ 101 ∷ []))
+    (totalling loopChart loopTable loopFigures reads (0 ∷ 0 ∷ 2 ∷ 20 ∷ []))
     -- 11: each buffer short alone; 13: a table that the checker fails
     ∷ (totalling loopChart (cut 2 3 3) loopFigures reads (11 ∷ 0 ∷ 0 ∷ 0 ∷ []))
     ∷ (totalling loopChart (cut 3 2 3) loopFigures reads (11 ∷ 0 ∷ 0 ∷ 0 ∷ []))
@@ -115,10 +115,10 @@ untotalled =
     -- 16: floor 2, ceiling 1 at node 2; at nodes 1 and 2, the first is told; a floor at its ceiling is no fault
     ∷ (totalling loopChart loopTable (figuresWith 1 10 (1 ∷ 1 ∷ 2 ∷ []) (1 ∷ 10 ∷ 1 ∷ [])) reads (16 ∷ 2 ∷ 0 ∷ 0 ∷ []))
     ∷ (totalling loopChart loopTable (figuresWith 1 10 (1 ∷ 11 ∷ 2 ∷ []) (1 ∷ 10 ∷ 1 ∷ [])) reads (16 ∷ 1 ∷ 0 ∷ 0 ∷ []))
-    ∷ (totalling loopChart loopTable (figuresWith 1 10 (1 ∷ 10 ∷ 1 ∷ []) (1 ∷ 10 ∷ 1 ∷ [])) reads (0 ∷ 0 ∷ 11 ∷ 101 ∷ []))
+    ∷ (totalling loopChart loopTable (figuresWith 1 10 (1 ∷ 10 ∷ 1 ∷ []) (1 ∷ 10 ∷ 1 ∷ [])) reads (0 ∷ 0 ∷ 11 ∷ 20 ∷ []))
     -- 17: floor 1 at node 2, which is not marked; floor 0 there is no fault, and its ceiling adds nothing
     ∷ (totalling endless endlessTable loopFigures reads (17 ∷ 2 ∷ 0 ∷ 0 ∷ []))
-    ∷ (totalling endless endlessTable (figuresWith 1 10 (1 ∷ 1 ∷ 0 ∷ []) (1 ∷ 10 ∷ 1 ∷ [])) reads (0 ∷ 0 ∷ 1 ∷ 100 ∷ []))
+    ∷ (totalling endless endlessTable (figuresWith 1 10 (1 ∷ 1 ∷ 0 ∷ []) (1 ∷ 10 ∷ 1 ∷ [])) reads (0 ∷ 0 ∷ 1 ∷ 19 ∷ []))
     -- several at once, and the smallest number is given: of 13 to 16, then of 14 to 16, of 15 and 16, of 16 and 17
     ∷ (totalling loopChart younger (figuresWith 2 1 (9 ∷ []) (1 ∷ [])) reads (13 ∷ 0 ∷ 0 ∷ 0 ∷ []))
     ∷ (totalling loopChart loopTable (figuresWith 2 1 (9 ∷ []) (1 ∷ [])) reads (14 ∷ 0 ∷ 0 ∷ 0 ∷ []))
@@ -145,9 +145,11 @@ abbrev pub summed : List Sounding
 summed =
     -- misses and a hit, a hit cost above 1, a table that is looser, one with something behind it
     (totalling missesChart missesTable (figuresWith 3 10 (1 ∷ 1 ∷ 1 ∷ []) (2 ∷ 2 ∷ 2 ∷ [])) reads (0 ∷ 0 ∷ 23 ∷ 46 ∷ []))
-    ∷ (totalling loopChart loopTable (figuresWith 3 10 (1 ∷ 1 ∷ 1 ∷ []) (1 ∷ 10 ∷ 1 ∷ [])) reads (0 ∷ 0 ∷ 6 ∷ 103 ∷ []))
-    ∷ (totalling loopChart (three (2 ∷ 2 ∷ 2 ∷ []) (0 ∷ 0 ∷ 0 ∷ []) (1 ∷ 1 ∷ 1 ∷ [])) loopFigures reads (0 ∷ 0 ∷ 2 ∷ 110 ∷ []))
-    ∷ (totalling loopChart (three (2 ∷ 2 ∷ 0 ∷ 9 ∷ []) (2 ∷ 0 ∷ 0 ∷ 9 ∷ []) (1 ∷ 1 ∷ 1 ∷ 9 ∷ [])) loopFigures reads (0 ∷ 0 ∷ 2 ∷ 101 ∷ []))
+    ∷ (totalling loopChart loopTable (figuresWith 3 10 (1 ∷ 1 ∷ 1 ∷ []) (1 ∷ 10 ∷ 1 ∷ [])) reads (0 ∷ 0 ∷ 6 ∷ 40 ∷ []))
+    ∷ (totalling loopChart (three (2 ∷ 2 ∷ 2 ∷ []) (0 ∷ 0 ∷ 0 ∷ []) (1 ∷ 1 ∷ 1 ∷ [])) loopFigures reads (0 ∷ 0 ∷ 2 ∷ 20 ∷ []))
+    ∷ (totalling loopChart (three (2 ∷ 2 ∷ 0 ∷ 9 ∷ []) (2 ∷ 0 ∷ 0 ∷ 9 ∷ []) (1 ∷ 1 ∷ 1 ∷ 9 ∷ [])) loopFigures reads (0 ∷ 0 ∷ 2 ∷ 20 ∷ []))
+    -- the same chart by a table that says nothing: all three touches are kept, and two blocks are charged for
+    ∷ (totalling missesChart (record { must = replicate 6 2; may = replicate 6 0; marks = 1 ∷ 1 ∷ 1 ∷ [] }) (figuresWith 3 10 (1 ∷ 1 ∷ 1 ∷ []) (2 ∷ 2 ∷ 2 ∷ [])) reads (0 ∷ 0 ∷ 9 ∷ 32 ∷ []))
     -- 17 at the first of two unmarked nodes; at the second, where the first has no floor; and what is not reached adds nothing
     ∷ (totalling stopped stoppedTable loopFigures reads (17 ∷ 1 ∷ 0 ∷ 0 ∷ []))
     ∷ (totalling stopped stoppedTable (figuresWith 1 10 (1 ∷ 0 ∷ 1 ∷ []) (1 ∷ 10 ∷ 1 ∷ [])) reads (17 ∷ 2 ∷ 0 ∷ 0 ∷ []))

@@ -7,3 +7,4 @@ pub mod Walking
 pub mod Paying
 pub mod Outcomes
 pub mod Counting
+pub mod Working

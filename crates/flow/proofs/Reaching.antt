@@ -22,7 +22,7 @@ module _ (F : Flow) where
     at-entry : Reach (F .entry)
     onward : {n t : ℕ} → Reach n → Among t (F .arrows n) → Reach t
 
-  le-marked : (c d : Cell (F .State)) → CellBelow F c d → Marked c → Marked d
+  pub le-marked : (c d : Cell (F .State)) → CellBelow F c d → Marked c → Marked d
   le-marked blank d h m = absurd m
   le-marked (holds a) blank h m = h
   le-marked (holds a) (holds b) h m = tt

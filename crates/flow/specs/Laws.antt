@@ -1,4 +1,5 @@
--- What the theory of passes asks of a flow. Nothing here is a rule of the tool; ages keep these laws (`ages`).
+-- What the theory of passes asks of a flow. Nothing here is a rule of the tool; ages keep these laws (`ages`), and so do
+-- the states of one block (`kept`).
 -- `Ok` is what a passing table has at each marked node, whoever made the table. `Real n` is what the states have, besides, that
 -- passes bring to node n: for a step that keeps the order only from such states, and for facts that are to be carried along. Where
 -- neither is needed, `Real n` is `Ok`.

@@ -5,3 +5,4 @@ pub mod Laws
 pub mod Walk
 pub mod Underway
 pub mod Truths
+pub mod Working

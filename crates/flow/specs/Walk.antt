@@ -45,6 +45,11 @@ abbrev pub AtTouches : {E S C : Type 0} → (E → S → S) → (E → C → C) 
 AtTouches stepS stepC P [] s c = Unit {0}
 AtTouches stepS stepC P (e ∷ es) s c = P e s c × AtTouches stepS stepC P es (stepS e s) (stepC e c)
 
+-- How many touches of a node pass a test of the touch, the table's state and the machine's contents just before it.
+abbrev pub countAt : {E S C : Type 0} → (E → S → S) → (E → C → C) → (E → S → C → Bool) → List E → S → C → ℕ
+countAt stepS stepC test [] s c = 0
+countAt stepS stepC test (e ∷ es) s c = cond (test e s c) 1 0 + countAt stepS stepC test es (stepS e s) (stepC e c)
+
 -- ---- machines
 
 -- Rule 5.3, of any contents: what is carried, what a touch does to it, and whether it hits.
@@ -71,3 +76,13 @@ module _ {E : Type 0} (M : Machine E) where
   abbrev pub AtNodes : (ℕ → M .Contents → Type 0) → (ℕ → List E) → ℕ → List ℕ → M .Contents → Type 0
   AtNodes P touches n [] c = P n c
   AtNodes P touches n (t ∷ ts) c = P n c × AtNodes P touches t ts (inTurn (M .act) (touches n) c)
+
+  -- The sum of what each node of the walk n, ts counts, with the contents that rule 5.3 carries there.
+  abbrev pub sumAlong : (ℕ → M .Contents → ℕ) → (ℕ → List E) → ℕ → List ℕ → M .Contents → ℕ
+  sumAlong f touches n [] c = f n c
+  sumAlong f touches n (t ∷ ts) c = f n c + sumAlong f touches t ts (inTurn (M .act) (touches n) c)
+
+  -- How many touches of the walk n, ts pass a test, where a table has a state for each node, and `stepS` carries it through a node's touches.
+  abbrev pub countAlong : {S : Type 0} → (E → S → S) → (E → S → M .Contents → Bool) → (ℕ → List E) → (ℕ → S) → ℕ → List ℕ → M .Contents → ℕ
+  countAlong stepS test touches states n ts c =
+      sumAlong (λ k d. countAt stepS (M .act) test (touches k) (states k) d) touches n ts c

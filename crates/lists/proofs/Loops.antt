@@ -1,11 +1,12 @@
 -- Laws of `patch`, `any` and `every`: a turn of a loop, and what the loop has made when it ends.
-use mathlib.Core.Bool.{Bool, cond, _&&_, _||_}
+use mathlib.Core.Bool.{Bool, true, false, cond, _&&_, _||_, true≢false}
 use mathlib.Core.List.{List, [], _∷_, _++_, append-assoc, append-nil}
 use mathlib.Core.Logic.{⊎-elim}
 use mathlib.Core.Path.{_≡_, refl, sym, ap, _∙_}
 use Prim.Native.Nat.{ℕ, zero, suc, _+_, _≤_, _<_}
 use native.Mathlib.Numerals.{add-one}
 use native.Mathlib.Nat.{zero-add, add-zero, add-assoc, add-suc, eq-or-lt-of-le, le-of-suc-le-suc}
+use native.Mathlib.Decide.{ℕ-discrete}
 use native.Mathlib.Omega.{arith}
 use lib.ListN.{length, getD, set, take, drop, length-set, length-append, take-append-drop, drop-of-length-le}
 use lib.Seq.{getD-set-same, getD-set-other, length-take-le, drop-cons, set-at, set-set, set-comm}
@@ -14,6 +15,7 @@ use borrow.Author.Tests.{eq-eqb, ne-eqb}
 use Rattle.lists.specs.Choice.{every}
 use Rattle.lists.specs.Lists.{listOf, written}
 use Rattle.lists.specs.Loops.{patch, any}
+use Rattle.lists.proofs.Choice.{or-false, false-or, or-true}
 use Rattle.lists.proofs.Listed.{length-listOf, listOf-more}
 
 -- ---- turns
@@ -57,7 +59,43 @@ patch-turn-by l base n g cur v e d =
 pub any-turn : (c₀ : Bool) (n : ℕ) (p : ℕ → Bool) (c d : Bool) → c ≡ any c₀ n p → d ≡ (c || p n) → d ≡ any c₀ (n + 1) p
 any-turn c₀ n p c d e h = rw (add-one, ← e) h
 
--- The same of a test on what a turn reads, while the list is being patched by f.
+-- Where nothing passes, no number does; and tests that agree have the same answer.
+pub any-none : (n : ℕ) (test : ℕ → Bool) → any false n test ≡ false → (i : ℕ) → i < n → test i ≡ false
+any-none zero test e i h = absurd (omega arith)
+any-none (suc n) test e i h = go (ℕ-discrete i n) (any-none n test (or-false (any false n test) (test n) e .0) i)
+  where
+    go : Dec (i ≡ n) → (i < n → test i ≡ false) → test i ≡ false
+    go (yes q) rest = ap test q ∙ or-false (any false n test) (test n) e .1
+    go (no q) rest = rest (omega arith)
+
+pub none-any : (n : ℕ) (test : ℕ → Bool) → ((i : ℕ) → i < n → test i ≡ false) → any false n test ≡ false
+none-any zero test h = refl
+none-any (suc n) test h = false-or (any false n test) (test n) (none-any n test (λ i l. h i (omega arith))) (h n (omega arith))
+
+-- Where one does, it is there.
+pub any-some : (n : ℕ) (test : ℕ → Bool) → any false n test ≡ true → (i : ℕ) × (i < n) × (test i ≡ true)
+any-some zero test e = absurd (true≢false (sym e))
+any-some (suc n) test e = go (any false n test) refl (any-some n test)
+  where
+    go : (t : Bool) → any false n test ≡ t → (any false n test ≡ true → (i : ℕ) × (i < n) × (test i ≡ true)) → (i : ℕ) × (i < suc n) × (test i ≡ true)
+    go true q rest = let found = rest q in (found .0, omega (arith, found .1), found .2)
+    go false q rest = (n, omega arith, or-true (any false n test) (test n) e q)
+
+pub some-any : (n : ℕ) (test : ℕ → Bool) (i : ℕ) → i < n → test i ≡ true → any false n test ≡ true
+some-any n test i h e = go (any false n test) refl
+  where
+    go : (t : Bool) → any false n test ≡ t → t ≡ true
+    go true q = refl
+    go false q = sym (any-none n test q i h) ∙ e
+
+pub any-same : (n : ℕ) (one other : ℕ → Bool) → ((i : ℕ) → i < n → one i ≡ other i) → any false n one ≡ any false n other
+any-same zero one other h = refl
+any-same (suc n) one other h =
+    let rest = any-same n one other (λ i l. h i (omega arith)) in
+    let here = h n (omega arith) in
+    λ i. rest i || here i
+
+-- A turn, of a test on what it reads, while the list is being patched by f.
 pub any-turn-by : (l : List ℕ) (base n : ℕ) (f : ℕ → ℕ) (cur : List ℕ) (g : ℕ → ℕ → Bool) (c₀ c d : Bool) → cur ≡ patch l base n f
     → c ≡ any c₀ n (λ j. g j (getD l (base + j) 0)) → d ≡ (c || g n (getD cur (base + n) 0)) → d ≡ any c₀ (n + 1) (λ j. g j (getD l (base + j) 0))
 any-turn-by l base n f cur g c₀ c d e h q =

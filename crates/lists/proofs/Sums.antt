@@ -1,5 +1,5 @@
 -- Laws of a sum: a bound for it, what two sums say of their terms, and sums of one term alone.
-use mathlib.Core.Bool.{cond}
+use mathlib.Core.Bool.{Bool, true, false, cond}
 use mathlib.Core.Path.{_≡_, refl, ap, sym, _∙_}
 use Prim.Native.Nat.{ℕ, zero, suc, _+_, _*_, _≤_, _<_}
 use native.Mathlib.Decide.{ℕ-discrete}
@@ -16,6 +16,23 @@ sum-most (suc n) most f h = let rest = sum-most n most f (λ i l. h i (omega ari
 pub sum-monotone : (n : ℕ) (f g : ℕ → ℕ) → ((i : ℕ) → i < n → f i ≤ g i) → sumOf n f ≤ sumOf n g
 sum-monotone zero f g h = omega arith
 sum-monotone (suc n) f g h = let rest = sum-monotone n f g (λ i l. h i (omega arith)) in let last = h n (omega arith) in omega arith
+
+-- A term is no more than the sum.
+pub sum-term : (n k : ℕ) (f : ℕ → ℕ) → k < n → f k ≤ sumOf n f
+sum-term zero k f h = absurd (omega arith)
+sum-term (suc n) k f h = go (ℕ-discrete k n) (sum-term n k f)
+  where
+    go : Dec (k ≡ n) → (k < n → f k ≤ sumOf n f) → f k ≤ sumOf n f + f n
+    go (yes e) rest = rw e (omega arith)
+    go (no e) rest = omega (arith, rest (omega arith))
+
+-- A flag counts one at most, and so many flags no more than there are.
+pub flag-most : (t : Bool) → cond t 1 0 ≤ 1
+flag-most true = omega arith
+flag-most false = omega arith
+
+pub flags-most : (n : ℕ) (flag : ℕ → Bool) → sumOf n (λ i. cond (flag i) 1 0) ≤ n
+flags-most n flag = omega (arith, sum-most n 1 (λ i. cond (flag i) 1 0) (λ i h. flag-most (flag i)))
 
 -- Terms no less whose sum is no more are the same.
 pub sum-same : (n : ℕ) (f g : ℕ → ℕ) → ((i : ℕ) → i < n → f i ≤ g i) → sumOf n g ≤ sumOf n f → (i : ℕ) → i < n → f i ≡ g i

@@ -1,1 +1,5 @@
 pub mod Truth
+pub mod Counting
+pub mod Uncounted
+pub mod Noting
+pub mod Keeping

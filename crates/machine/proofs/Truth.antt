@@ -12,20 +12,20 @@ use Rattle.chart.specs.Record.{Touch}
 use Rattle.chart.specs.Chart.{Chart, accepted, readChart, touches}
 use Rattle.chart.proofs.Accepted.{accepted-apart}
 use Rattle.cache.specs.Ages.{Ages, startAges}
-use Rattle.cache.specs.Plain.{Cache, Formed}
+use Rattle.cache.specs.Plain.{Formed}
 use Rattle.cache.specs.Laws.{Named}
 use Rattle.cache.proofs.Bounding.{bounds-weaker, start-bounds, touch-bounds, young-hits, old-misses}
 use Rattle.flow.specs.Truths.{Truthful}
 use Rattle.ages.specs.Plan.{columnsOf, planFlow}
 use Rattle.ages.specs.Charted.{columnOf, blockAt, columnTouch, isEmpty, planOf, touchedBy}
 use Rattle.ages.proofs.Charting.{step-touches, must-limit-planned, may-limit-planned, keys-set, sets-key, column-inside, column-holds, chart-sound}
-use Rattle.classes.specs.Class.{classOf, CalledRight}
+use Rattle.classes.specs.Class.{Whole, classOf, CalledRight}
 use Rattle.classes.proofs.Calling.{hit-young, miss-old}
 use Rattle.machine.specs.Machine.{waysOf, keyOf, plainMachine, Contents, BeginsWith, AgesTrue}
 
 module _ (bytes : List ℕ) (chart : Chart) (read : readChart bytes ≡ accepted chart) where
   -- The plan's columns name the chart's blocks.
-  named : Named (columnsOf (planOf chart)) (waysOf chart) (keyOf chart) (blockAt chart)
+  pub named : Named (columnsOf (planOf chart)) (waysOf chart) (keyOf chart) (blockAt chart)
   named =
       record {
         one-set = keys-set chart;
@@ -37,7 +37,7 @@ module _ (bytes : List ℕ) (chart : Chart) (read : readChart bytes ≡ accepted
 
   -- ---- one touch
 
-  module _ (n : ℕ) (inside : n < chart .header .nodes) (t : Touch) (among : Among t (touches chart n)) (a : Ages) (contents : Contents chart) (bounds : AgesTrue chart a contents) where
+  module _ (n : ℕ) (inside : n < chart .header .nodes) (t : Touch) (among : Among t (touches chart n)) where
     abbrev column : ℕ
     column = columnOf chart (t .block)
 
@@ -47,18 +47,20 @@ module _ (bytes : List ℕ) (chart : Chart) (read : readChart bytes ≡ accepted
     holds-block : blockAt chart column ≡ t .block
     holds-block = column-holds bytes chart read n inside t among
 
-    pub touch-true : AgesTrue chart (touchedBy chart t a) (plainMachine chart .act t contents)
-    touch-true =
+    pub touch-true : (a : Ages) (contents : Contents chart) → AgesTrue chart a contents → AgesTrue chart (touchedBy chart t a) (plainMachine chart .act t contents)
+    touch-true a contents bounds =
         subst (λ (b : ℕ). AgesTrue chart (touchedBy chart t a) (plainMachine chart .act (record { block = b; write = t .write }) contents)) holds-block
         (touch-bounds (columnsOf (planOf chart)) (waysOf chart) (keyOf chart) (blockAt chart) named column in-columns a contents bounds)
 
-    pub touch-called : CalledRight (classOf (planOf chart) (columnTouch chart t) a) (plainMachine chart .finds t contents)
-    touch-called =
+    -- Whatever is held of the blocks besides.
+    pub touch-called : (whole : Whole) (contents : Contents chart) → AgesTrue chart (whole .ages) contents
+        → CalledRight (classOf (planOf chart) (columnTouch chart t) whole) (plainMachine chart .finds t contents)
+    touch-called whole contents bounds =
         record {
           hit-hits = λ e. subst (λ (b : ℕ). plainMachine chart .finds (record { block = b; write = t .write }) contents ≡ true) holds-block
-              (young-hits (columnsOf (planOf chart)) (waysOf chart) (keyOf chart) (blockAt chart) named column in-columns a contents bounds (hit-young _ _ _ e));
+              (young-hits (columnsOf (planOf chart)) (waysOf chart) (keyOf chart) (blockAt chart) named column in-columns (whole .ages) contents bounds (hit-young _ _ _ _ e));
           miss-misses = λ e. subst (λ (b : ℕ). plainMachine chart .finds (record { block = b; write = t .write }) contents ≡ false) holds-block
-              (old-misses (columnsOf (planOf chart)) (waysOf chart) (keyOf chart) (blockAt chart) named column in-columns a contents bounds (miss-old _ _ _ e));
+              (old-misses (columnsOf (planOf chart)) (waysOf chart) (keyOf chart) (blockAt chart) named column in-columns (whole .ages) contents bounds (miss-old _ _ _ _ e));
         }
 
   -- ---- what the lift along a walk asks, and the start

@@ -1,1 +1,3 @@
 pub mod Machine
+pub mod Keeping
+pub mod Noted

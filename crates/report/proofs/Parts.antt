@@ -22,9 +22,9 @@ class-put {room} {at} {next} {before} {after} class k e p h =
     subst (λ (x : ℕ). Put mostLetters before at (classWord x) after next) (sym e) (put-wide p h)
 
 -- The word for any other class.
-pub other-put : {at next : ℕ} {before after : List ℕ} (class : ℕ) → (class ≡ 0 → ⊥) → (class ≡ 1 → ⊥) → (class ≡ 2 → ⊥) → (class ≡ 3 → ⊥) → Put 4 before at noneWord after next → Put mostLetters before at (classWord class) after next
-other-put class a b c d p =
-    rw (ne-eqb class 0 a, ne-eqb class 1 b, ne-eqb class 2 c, ne-eqb class 3 d) (put-wide p (omega arith))
+pub other-put : {at next : ℕ} {before after : List ℕ} (class : ℕ) → (class ≡ 0 → ⊥) → (class ≡ 1 → ⊥) → (class ≡ 2 → ⊥) → (class ≡ 3 → ⊥) → (class ≡ 5 → ⊥) → Put 4 before at noneWord after next → Put mostLetters before at (classWord class) after next
+other-put class a b c d e p =
+    rw (ne-eqb class 0 a, ne-eqb class 1 b, ne-eqb class 2 c, ne-eqb class 3 d, ne-eqb class 5 e) (put-wide p (omega arith))
 
 -- The lines of n nodes, and of one more.
 joined-append : (a b : List (List ℕ)) → joined (a ++ b) ≡ joined a ++ joined b

@@ -1,4 +1,4 @@
--- What the program prints for any input. Rules 1.4, 13.1, 13.2 and 14.1 to 14.3. A class above 4, which the analysis never writes, reads as none. The
+-- What the program prints for any input. Rules 1.4, 13.1, 13.2 and 14.1 to 14.3. A class above 5, which the analysis never writes, reads as none. The
 -- analysis gets buffers of the program's own, zeros with room for the largest chart; so a report never says 11. How the input is read is not said here.
 use Prim.Native.Nat.{ℕ, _+_, _*_}
 use mathlib.Core.List.{List, [], _∷_, _++_}
@@ -14,8 +14,8 @@ use Rattle.refusals.specs.Refusals.{numberOf, placeOf}
 use Rattle.analysis.specs.declared.Analysed.{Analysed}
 use Rattle.analysis.specs.declared.Analysed.the-variants.{Settled, Unsettled, Refused}
 use Rattle.analysis.specs.Analysis.{Buffers, Left, analysed}
-use Rattle.classes.specs.Class.{unreached, hit, miss, unsure}
-use Rattle.report.specs.Text.{lineFeed, space, nodesWord, blocksWord, passesWord, unreachedWord, hitWord, missWord, unsureWord, noneWord, refusedWord, atWord, decimal}
+use Rattle.classes.specs.Class.{unreached, hit, miss, unsure, kept}
+use Rattle.report.specs.Text.{lineFeed, space, nodesWord, blocksWord, passesWord, unreachedWord, hitWord, missWord, unsureWord, keptWord, noneWord, refusedWord, atWord, decimal}
 
 -- Rules 1.4 and 13.1: as many bytes as the longest chart has, and one more.
 abbrev pub taken : List ℕ → List ℕ
@@ -29,6 +29,7 @@ classWord class =
     ∷ (eqb class hit ⇒ hitWord)
     ∷ (eqb class miss ⇒ missWord)
     ∷ (eqb class unsure ⇒ unsureWord)
+    ∷ (eqb class kept ⇒ keptWord)
     ∷ [])
     noneWord
 

@@ -41,6 +41,10 @@ missWord = 109 ∷ 105 ∷ 115 ∷ 115 ∷ []
 abbrev pub unsureWord : List ℕ
 unsureWord = 117 ∷ 110 ∷ 115 ∷ 117 ∷ 114 ∷ 101 ∷ []
 
+-- kept
+abbrev pub keptWord : List ℕ
+keptWord = 107 ∷ 101 ∷ 112 ∷ 116 ∷ []
+
 -- none
 abbrev pub noneWord : List ℕ
 noneWord = 110 ∷ 111 ∷ 110 ∷ 101 ∷ []

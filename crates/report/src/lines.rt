@@ -14,7 +14,7 @@ use crate::puts::put_word;
 use chart::Geometry;
 use refusals::Refusal;
 
-// Puts the word of a class (rule 14.2); any class above 3 reads as none.
+// Puts the word of a class (rule 14.2); one that there is not reads as none.
 fn put_class(text: &mut [u8], at: usize, class: u8) -> usize
     requires { ⌜ at + mostLetters ≤ length (now text) ⌝ }
     ensures { λ r. ⌜ Put mostLetters (now (text .entry)) at (classWord class) (now (text .exit)) r ⌝ }
@@ -24,6 +24,7 @@ fn put_class(text: &mut [u8], at: usize, class: u8) -> usize
         1 => put_word(text, at, b"hit"),
         2 => put_word(text, at, b"miss"),
         3 => put_word(text, at, b"unsure"),
+        5 => put_word(text, at, b"kept"),
         _ => put_word(text, at, b"none"),
     }
 }

@@ -11,12 +11,13 @@ pub(crate) fn asked_anything()
     ensures { λ _. ⌜ Demand1 ⌝ }
 {}
 
-// The checker passes what meets the equations, and the analysis leaves the tightest table that passes.
+// The checker passes what meets the equations, and the analysis leaves the tightest table that passes; so is the table of each block that may stay.
 pub(crate) fn says_most()
     ensures { λ _. ⌜ Demand2 ⌝ }
 {}
 
-// What a class calls a hit hits, what it calls a miss misses, and the cost lies between the totals.
+// What a class calls a hit hits, what it calls a miss misses, of what it calls kept one touch of a block misses at most, and the cost lies between the
+// totals.
 pub(crate) fn says_so()
     ensures { λ _. ⌜ Demand3 ⌝ }
 {}

@@ -47,7 +47,7 @@ fn print_checked(answer: Checked) {
     }
 }
 
-// Writes what the totals answered, as `low 2 high 101`.
+// Writes what the totals answered, as `low 2 high 20`.
 fn print_totals(answer: Totals) {
     match answer {
         Totals::Between { low, high } => {

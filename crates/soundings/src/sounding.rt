@@ -72,7 +72,7 @@ pub(crate) fn loop_checked() -> Checked
 
 // What the totals answer for that table and the sounding's costs, floors and ceilings.
 pub(crate) fn loop_totals() -> Totals
-    ensures { λ r. ⌜ r ≡ Between 2 101 ⌝ }
+    ensures { λ r. ⌜ r ≡ Between 2 20 ⌝ }
 {
     let chart = loop_chart();
     let table = loop_table();

@@ -1,3 +1,4 @@
 pub mod Summing
+pub mod Charged
 pub mod Answering
 pub mod Totalled

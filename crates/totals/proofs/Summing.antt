@@ -1,19 +1,22 @@
--- The two sums: no sum overflows, and the sums over all nodes, touch by touch, are the two totals.
-use Prim.Native.Nat.{ℕ, _+_, _*_, _≤_, _<_}
+-- The two sums: no sum overflows, and those over all nodes by a list of their classes, touch by touch, are the totals but for what rule 10.4 adds.
+use Prim.Native.Nat.{ℕ, suc, _+_, _*_, _≤_, _<_}
 use mathlib.Core.Bool.{Bool, true, false, cond, _||_}
 use mathlib.Core.List.{List, [], _∷_}
-use mathlib.Core.Path.{_≡_, refl, sym, ap, subst, _∙_}
-use native.Mathlib.Nat.{mul-le-mul}
-use native.Mathlib.Numerals.{add-one}
+use mathlib.Core.Path.{_≡_, sym, ap, subst, _∙_}
+use native.Mathlib.Nat.{mul-le-mul, mul-add}
 use native.Mathlib.Omega.{arith}
 use lib.Dec.{eqb}
 use lib.ListN.{getD, length}
-use Rattle.flow.specs.Flow.{cellAt}
+use Rattle.lists.specs.Lists.{sumOf, written}
+use Rattle.lists.proofs.Joined.{getD-written}
+use Rattle.lists.proofs.Sums.{sum-equal}
+use Rattle.chart.specs.Geometry.{mostTouches}
+use Rattle.cache.specs.Ages.{Ages}
+use Rattle.flow.specs.Flow.{Cell, cellAt}
 use Rattle.ages.specs.Plan.{ColumnTouch, Plan, touchesIn}
-use Rattle.classes.specs.Class.{unreached, hit, miss, none}
-use Rattle.classing.specs.declared.Classes.{Classes}
-use Rattle.classing.specs.Both.{bothClasses}
-use Rattle.costs.specs.Costs.{Costs, Figures, highRate, lowRate, visitCost, totalBy, lowTotal, highTotal, classesAt, classCost}
+use Rattle.classes.specs.Class.{unreached, hit, miss, none, kept, nodeClass, tableClasses}
+use Rattle.classes.proofs.Places.{classes-long, first-listed, second-listed}
+use Rattle.costs.specs.Costs.{Costs, Figures, highRate, lowRate, visitCost, totalBy, highTotalBy, lowTotal, classesAt, classCost}
 use Rattle.costs.proofs.Classed.{node-cost}
 use Rattle.plan.specs.declared.PlannedRecord.{PlannedRecord}
 use Rattle.plan.specs.declared.PlannedRecord.the-variants.{Step, Reference}
@@ -21,7 +24,7 @@ use Rattle.plan.specs.Listed.{nodesIn, nodeIn, touchesBy, planIn}
 use Rattle.plan.proofs.Holding.{touches-held}
 use Rattle.tables.specs.Lent.{Lent, tableOf}
 use Rattle.totals.specs.declared.sums.Sums.{Sums}
-use Rattle.totals.specs.Inner.{mostAdded, Small, touchAdded, sumsTo}
+use Rattle.totals.specs.Inner.{mostAdded, Small, touchAdded, classesCost, sumsTo}
 
 -- ---- no sum overflows
 
@@ -41,7 +44,7 @@ module _ (costs : Costs) (h : costs .hit ≤ 65535) (g : costs .miss ≤ 65535) 
   low-rate-most = cond-most (eqb class miss) (costs .miss) (costs .hit) 65535 g h
 
   pub high-rate-most : highRate costs class ≤ 65535
-  high-rate-most = cond-most (eqb class hit) (costs .hit) (costs .miss) 65535 h g
+  high-rate-most = cond-most (eqb class hit || eqb class kept) (costs .hit) (costs .miss) 65535 h g
 
   cost-most : (rate : ℕ → ℕ) → rate class ≤ 65535 → classCost rate class ≤ 65535
   cost-most rate most = cond-most (eqb class unreached || eqb class none) 0 (rate class) 65535 (omega arith) most
@@ -60,9 +63,30 @@ nothing-added floor ceiling sums =
     let high : sums .high ≡ sums .high + ceiling * 0 = omega arith in
     λ i. record { low = low i; high = high i }
 
+-- ---- a turn of the loop over the nodes
+
+pub sums-turn : (classes : List ℕ) (figures : Figures) (n : ℕ) (sums : Sums) → sums ≡ sumsTo classes figures n
+    → touchAdded (figures .costs) (getD classes (mostTouches * n + 1) 0) (getD (figures .floors) n 0) (getD (figures .ceilings) n 0)
+    (touchAdded (figures .costs) (getD classes (mostTouches * n) 0) (getD (figures .floors) n 0) (getD (figures .ceilings) n 0) sums)
+    ≡ sumsTo classes figures (n + 1)
+sums-turn classes figures n sums e =
+    ap (λ (s : Sums). touchAdded (figures .costs) (getD classes (mostTouches * n + 1) 0) (getD (figures .floors) n 0) (getD (figures .ceilings) n 0)
+    (touchAdded (figures .costs) (getD classes (mostTouches * n) 0) (getD (figures .floors) n 0) (getD (figures .ceilings) n 0) s)) e
+    ∙ (λ i. record {
+      low = both (sumsTo classes figures n .low) (getD (figures .floors) n 0) (classCost (lowRate (figures .costs)) (getD classes (mostTouches * n) 0)) (classCost (lowRate (figures .costs)) (getD classes (mostTouches * n + 1) 0)) i;
+      high = both (sumsTo classes figures n .high) (getD (figures .ceilings) n 0) (classCost (highRate (figures .costs)) (getD classes (mostTouches * n) 0)) (classCost (highRate (figures .costs)) (getD classes (mostTouches * n + 1) 0)) i;
+    })
+    ∙ ap (sumsTo classes figures) next
+  where
+    next : suc n ≡ n + 1
+    next = omega arith
+
+    both : (sum times one two : ℕ) → sum + times * one + times * two ≡ sum + times * (one + two)
+    both sum times one two = rw (mul-add times one two) (omega arith)
+
 -- ---- the sums are the totals
 
-few-touches : (planned : PlannedRecord) → length (touchesBy planned) ≤ 2
+pub few-touches : (planned : PlannedRecord) → length (touchesBy planned) ≤ 2
 few-touches Step = omega arith
 few-touches (Reference reference) = go (eqb (reference .lower) (reference .upper))
   where
@@ -70,36 +94,40 @@ few-touches (Reference reference) = go (eqb (reference .lower) (reference .upper
     go true = omega arith
     go false = omega arith
 
-module _ (columns plan : List ℕ) (lent : Lent) where
+-- A list that begins with the classes of all nodes of a table.
+module _ (columns plan : List ℕ) (lent : Lent) (classes before : List ℕ)
+    (is : classes ≡ written (tableClasses (planIn columns plan) (tableOf (planIn columns plan) lent)) before) where
   abbrev held : Plan
   held = planIn columns plan
 
+  abbrev table : List (Cell Ages)
+  table = tableOf held lent
+
+  listed : (i : ℕ) → i < mostTouches * nodesIn plan → getD classes i 0 ≡ getD (tableClasses held table) i 0
+  listed i h =
+      let long = classes-long held table in
+      ap (λ (l : List ℕ). getD l i 0) is ∙ getD-written (tableClasses held table) before i 0 (omega arith)
+
+  pub first-class : (n : ℕ) → n < nodesIn plan → getD classes (mostTouches * n) 0 ≡ nodeClass held n 0 (cellAt table n)
+  first-class n h = listed (mostTouches * n) (omega arith) ∙ first-listed held table n h
+
+  pub second-class : (n : ℕ) → n < nodesIn plan → getD classes (mostTouches * n + 1) 0 ≡ nodeClass held n 1 (cellAt table n)
+  second-class n h = listed (mostTouches * n + 1) (omega arith) ∙ second-listed held table n h
+
   -- What a visit of a node counts is what its two classes count.
-  module _ (n : ℕ) (inside : n < nodesIn plan) (both : Classes) (is : both ≡ bothClasses held n (cellAt (tableOf held lent) n)) where
-    visit-is : (rate : ℕ → ℕ) → visitCost (classesAt held n) rate (cellAt (tableOf held lent) n) ≡ classCost rate (both .first) + classCost rate (both .second)
-    visit-is rate =
-        let few : length (touchesIn held n) ≤ 2 = subst (λ (touches : List ColumnTouch). length touches ≤ 2) (sym (touches-held columns plan n inside)) (few-touches (nodeIn plan n .what)) in
-        node-cost rate held n few (cellAt (tableOf held lent) n) ∙ ap (λ (classes : Classes). classCost rate (classes .first) + classCost rate (classes .second)) (sym is)
+  visit-is : (rate : ℕ → ℕ) (n : ℕ) → n < nodesIn plan → classesCost rate classes n ≡ visitCost (classesAt held n) rate (cellAt table n)
+  visit-is rate n h =
+      let few : length (touchesIn held n) ≤ 2 = subst (λ (touches : List ColumnTouch). length touches ≤ 2) (sym (touches-held columns plan n h)) (few-touches (nodeIn plan n .what)) in
+      (λ i. classCost rate (first-class n h i) + classCost rate (second-class n h i)) ∙ sym (node-cost rate held n few (cellAt table n))
 
-    counted : (rate : ℕ → ℕ) (sum times : ℕ) → sum + times * classCost rate (both .first) + times * classCost rate (both .second) ≡ sum + times * visitCost (classesAt held n) rate (cellAt (tableOf held lent) n)
-    counted rate sum times = rw (visit-is rate) (omega arith)
-
-    -- A turn of the loop over the nodes.
-    pub sums-turn : (figures : Figures) (sums : Sums) → sums ≡ sumsTo held (tableOf held lent) figures n
-        → touchAdded (figures .costs) (both .second) (getD (figures .floors) n 0) (getD (figures .ceilings) n 0) (touchAdded (figures .costs) (both .first) (getD (figures .floors) n 0) (getD (figures .ceilings) n 0) sums)
-        ≡ sumsTo held (tableOf held lent) figures (n + 1)
-    sums-turn figures sums e =
-        rw (add-one, e)
-        (λ i. record {
-          low = counted (lowRate (figures .costs)) (sumsTo held (tableOf held lent) figures n .low) (getD (figures .floors) n 0) i;
-          high = counted (highRate (figures .costs)) (sumsTo held (tableOf held lent) figures n .high) (getD (figures .ceilings) n 0) i;
-        })
-
-  -- The sums over all nodes are the two totals.
-  pub low-is : (figures : Figures) → sumsTo held (tableOf held lent) figures (nodesIn plan) .low ≡ lowTotal held (tableOf held lent) figures
+  counted : (rate : ℕ → ℕ) (times : List ℕ) → sumOf (nodesIn plan) (λ n. getD times n 0 * classesCost rate classes n) ≡ totalBy (nodesIn plan) (classesAt held) table rate times
   unfolding totalBy
-  low-is figures = refl
+  counted rate times =
+      sum-equal (nodesIn plan) (λ n. getD times n 0 * classesCost rate classes n) (λ n. getD times n 0 * visitCost (classesAt held n) rate (cellAt table n))
+      (λ n h. ap (λ (k : ℕ). getD times n 0 * k) (visit-is rate n h))
 
-  pub high-is : (figures : Figures) → sumsTo held (tableOf held lent) figures (nodesIn plan) .high ≡ highTotal held (tableOf held lent) figures
-  unfolding totalBy
-  high-is figures = refl
+  pub low-is : (figures : Figures) → sumsTo classes figures (nodesIn plan) .low ≡ lowTotal held table figures
+  low-is figures = counted (lowRate (figures .costs)) (figures .floors)
+
+  pub high-is : (figures : Figures) → sumsTo classes figures (nodesIn plan) .high ≡ highTotalBy (nodesIn plan) (classesAt held) table figures
+  high-is figures = counted (highRate (figures .costs)) (figures .ceilings)

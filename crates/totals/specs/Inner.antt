@@ -1,13 +1,14 @@
 -- What the totals' functions promise one another: what a touch of a class adds to the two sums, and how large these can get. Nothing here is a rule
--- of the tool: `costs` has the sums of rules 10.2 and 10.3, and laws lead there.
+-- of the tool: `costs` has the sums of rules 10.2 to 10.4, and laws lead there.
 use Prim.Native.Nat.{ℕ, _+_, _*_, _≤_}
 use mathlib.Core.List.{List}
 use lib.ListN.{getD}
 use Rattle.lists.specs.Lists.{sumOf}
 use Rattle.cache.specs.Ages.{Ages}
-use Rattle.flow.specs.Flow.{Cell, cellAt}
+use Rattle.flow.specs.Flow.{Cell}
+use Rattle.chart.specs.Geometry.{mostTouches}
 use Rattle.ages.specs.Plan.{Plan}
-use Rattle.costs.specs.Costs.{Costs, Figures, highRate, lowRate, visitCost, classesAt, classCost}
+use Rattle.costs.specs.Costs.{Costs, Figures, highRate, lowRate, classCost, lowTotal, highTotal}
 use Rattle.totals.specs.declared.sums.Tariff.{Tariff}
 use Rattle.totals.specs.declared.sums.Sums.{Sums}
 
@@ -37,10 +38,18 @@ touchAdded costs class floor ceiling sums =
       high = sums .high + ceiling * classCost (highRate costs) class;
     }
 
--- The sums over the first n nodes of a plan, by a table.
-abbrev pub sumsTo : Plan → List (Cell Ages) → Figures → ℕ → Sums
-sumsTo plan table figures n =
+-- What the two classes of node n count at a rate, where a list has the classes of all nodes.
+abbrev pub classesCost : (ℕ → ℕ) → List ℕ → ℕ → ℕ
+classesCost rate classes n = classCost rate (getD classes (mostTouches * n) 0) + classCost rate (getD classes (mostTouches * n + 1) 0)
+
+-- The sums over the first n nodes, by such a list.
+abbrev pub sumsTo : List ℕ → Figures → ℕ → Sums
+sumsTo classes figures n =
     record {
-      low = sumOf n (λ k. getD (figures .floors) k 0 * visitCost (classesAt plan k) (lowRate (figures .costs)) (cellAt table k));
-      high = sumOf n (λ k. getD (figures .ceilings) k 0 * visitCost (classesAt plan k) (highRate (figures .costs)) (cellAt table k));
+      low = sumOf n (λ k. getD (figures .floors) k 0 * classesCost (lowRate (figures .costs)) classes k);
+      high = sumOf n (λ k. getD (figures .ceilings) k 0 * classesCost (highRate (figures .costs)) classes k);
     }
+
+-- The two totals of a table.
+abbrev pub bothSums : Plan → List (Cell Ages) → Figures → Sums
+bothSums plan table figures = record { low = lowTotal plan table figures; high = highTotal plan table figures }

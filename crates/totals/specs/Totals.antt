@@ -1,5 +1,5 @@
 -- The totals for any bytes, lent table, costs, floors and ceilings, and their refusals. Rules 11.11, 11.13 to 11.17, 12.6 and 12.8; the sums of
--- rules 10.2 and 10.3 are those of `costs`. By rule 11.0 a 16 at a later node goes before a 17 at an earlier one. Refusal 17 asks for a mark
+-- rules 10.2 to 10.4 are those of `costs`. By rule 11.0 a 16 at a later node goes before a 17 at an earlier one. Refusal 17 asks for a mark
 -- alone, so it is given at a bare step too; a ceiling at an unmarked node is no fault. Costs, floors and ceilings are any numbers, though rule
 -- 10.1 has 16 bits for them.
 use Prim.Native.Nat.{ℕ}
@@ -64,7 +64,7 @@ abbrev pub totalsSay : Totals → TotalsSaid
 totalsSay (Between low high) = record { number = 0; place = 0; low = low; high = high }
 totalsSay (Refused refusal) = record { number = numberOf refusal; place = placeOf refusal; low = 0; high = 0 }
 
--- Rules 10.2 and 10.3, of the table that is lent.
+-- Rules 10.2 to 10.4, of the table that is lent.
 abbrev pub bothTotals : Plan → Lent → Figures → Totals
 bothTotals plan lent figures = Between (lowTotal plan (tableOf plan lent) figures) (highTotal plan (tableOf plan lent) figures)
 

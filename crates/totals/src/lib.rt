@@ -1,6 +1,7 @@
 // The totals: answers the low and the high total of a lent table, or refuses with the first of 1 to 11 and 13 to 17 that applies. It looks at the
 // used parts of the table alone, and writes to nothing that is lent.
 mod bounds;
+mod charging;
 mod sums;
 
 ghost use mathlib.Core.Path.{_≡_};
@@ -59,7 +60,7 @@ fn total_drawn(
     }
 }
 
-// Answers for any bytes, lent table, costs, floors and ceilings: the two totals (rules 10.2 and 10.3), or the first of refusals 1 to 11 and 13 to 17
+// Answers for any bytes, lent table, costs, floors and ceilings: the two totals (rules 10.2 to 10.4), or the first of refusals 1 to 11 and 13 to 17
 // that applies (rules 12.6 and 12.7).
 pub fn total(
     chart: &[u8],

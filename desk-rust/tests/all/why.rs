@@ -27,11 +27,12 @@ fn both(json: &Json) -> [u64; 2] {
     ["must", "may"].map(|name| json.at(name).number())
 }
 
-/// The class that two ages make (rule 8.1).
-fn class_of([must, may]: [u64; 2], ways: u64) -> &'static str {
-    match (must < ways, may >= ways) {
-        (true, _) => "hit",
-        (_, true) => "miss",
+/// The class that two ages make, and the number of blocks that were touched since (rule 8.1).
+fn class_of([must, may]: [u64; 2], others: usize, ways: u64) -> &'static str {
+    match (must < ways, may >= ways, (others as u64) < ways) {
+        (true, _, _) => "hit",
+        (_, true, _) => "miss",
+        (_, _, true) => "kept",
         _ => "unsure",
     }
 }
@@ -80,7 +81,8 @@ fn expect_touch(known: &Known, touch: &Json, place: usize, arrival: [u64; 2]) {
     if place == 0 || has_room(known) {
         let before = both(touch);
         assert!(place > 0 || before == arrival, "the first touch meets what arrives");
-        assert_eq!(touch.at("class").text(), class_of(before, ways));
+        let others = touch.at("others").list().len();
+        assert_eq!(touch.at("class").text(), class_of(before, others, ways));
     } else {
         assert_eq!((touch.at("must"), touch.at("may")), (&Json::Null, &Json::Null));
     }
@@ -96,10 +98,16 @@ fn expect_touch(known: &Known, touch: &Json, place: usize, arrival: [u64; 2]) {
     } else {
         assert_eq!(touch.at("arrows"), &Json::Null);
     }
-    let nowhere = touch.at("last_touches").list().is_empty();
+    let nothing = |name: &str| touch.at(name).list().is_empty();
+    let from_start = touch.at("from_start") == &Json::Bool(true);
+    assert!(!nothing("last_touches") || from_start, "a walk comes from somewhere");
     assert!(
-        !nowhere || touch.at("from_start") == &Json::Bool(true),
-        "a walk comes from somewhere"
+        !nothing("last_touches") || nothing("others"),
+        "nothing is touched since"
+    );
+    assert!(
+        from_start || nothing("others_from_start"),
+        "no walk comes from the start"
     );
 }
 

@@ -3,7 +3,11 @@
 use calls::{Case, Function, SEED};
 use charts::random_edges::EDGES;
 use second::chart::Chart;
-use second::limits::{BLOCKS, TOUCHES};
+use second::class::Class;
+use second::kept::Kept;
+use second::lending::Lending;
+use second::lent::Lent;
+use second::limits::{BLOCKS, PASSES, TOUCHES};
 
 fn cases() -> impl Iterator<Item = Case> {
     (0..40_000).map(|number| calls::case(SEED, number))
@@ -22,15 +26,49 @@ fn most_nodes_of_what_is_analysed_are_reached() {
 }
 
 #[test]
-fn second_touches_of_what_is_analysed_have_every_class() {
-    let mut times = [0; 5];
+fn touches_of_what_is_analysed_have_every_class() {
+    let mut times = [[0; 6]; TOUCHES];
     for case in cases().filter(|case| case.function == Function::Analyse && case.returned == 0) {
         let classes = case.buffers[5].elements::<u8>();
         for both in classes[..case.buffers[5].needed].chunks(TOUCHES) {
-            times[usize::from(both[1])] += 1;
+            for (times, &class) in times.iter_mut().zip(both) {
+                times[usize::from(class)] += 1;
+            }
         }
     }
-    assert!(times.iter().all(|&times| times >= 100), "{times:?}");
+    assert!(times.as_flattened().iter().all(|&times| times >= 100), "{times:?}");
+}
+
+/// Whether the table of a call to the totals calls a touch kept at a ceiling above 0, at a node that a walk reaches, and at one that it marks and
+/// no walk reaches.
+fn keeps(case: &Case) -> [bool; 2] {
+    let bytes = case.buffers[0].elements::<u8>();
+    let chart = Chart::read(&bytes).expect("the chart is accepted");
+    let mut own = Lending::of(chart.blocks.len(), chart.nodes.len(), 0);
+    own.analyse(&bytes, PASSES);
+    let [must, may, marks] = [1, 2, 3].map(|place: usize| case.buffers[place].elements::<u8>());
+    let lent = Lent {
+        must: &must,
+        may: &may,
+        marks: &marks,
+    };
+    let (kept, ceilings) = (Kept::of(&chart), case.buffers[5].elements::<u16>());
+    let mut keeps = [false; 2];
+    for node in (0..chart.nodes.len()).filter(|&node| ceilings[node] > 0) {
+        keeps[usize::from(own.marks[node] == 0)] |= Class::of(&chart, lent, &kept, node).contains(&Class::Kept);
+    }
+    keeps
+}
+
+#[test]
+fn totals_pay_for_kept_touches_also_where_no_walk_comes() {
+    let mut times = [0; 2];
+    for case in cases().filter(|case| case.function == Function::Total && case.returned == 0) {
+        for (times, keeps) in times.iter_mut().zip(keeps(&case)) {
+            *times += usize::from(keeps);
+        }
+    }
+    assert!(times[0] >= 500 && times[1] >= 20, "{times:?}");
 }
 
 #[test]

@@ -1,4 +1,5 @@
-//! So that what is drawn is not idle: how many nodes of random charts are reached, how many touch two blocks, and that an edge is one.
+//! So that what is drawn is not idle: how many nodes of random charts are reached, how many touch two blocks, what classes their touches have, and
+//! that an edge is one.
 
 use charts::random::Random;
 use charts::random_charts::whole;
@@ -27,6 +28,26 @@ fn most_nodes_are_reached() {
         marked += reached(&bytes, &chart);
     }
     assert!(10 * marked >= 7 * nodes, "{marked} of {nodes} nodes are reached");
+}
+
+#[test]
+fn hits_misses_unsure_and_kept_touches_are_often_each() {
+    let mut random = Random::new(7);
+    let (mut charts, mut with) = (0, [0; 6]);
+    for _ in 0..2_000 {
+        let bytes = whole(&mut random).bytes();
+        let Ok(chart) = Chart::read(&bytes) else { continue };
+        let mut lending = Lending::of(chart.blocks.len(), chart.nodes.len(), 0);
+        lending.analyse(&bytes, PASSES);
+        charts += 1;
+        for (class, with) in with.iter_mut().enumerate() {
+            *with += usize::from(lending.classes.contains(&(class as u8)));
+        }
+    }
+    assert!(
+        with.iter().all(|with| 5 * with >= charts),
+        "of {charts} charts {with:?} have each class"
+    );
 }
 
 #[test]

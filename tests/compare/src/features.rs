@@ -11,6 +11,8 @@ pub const BLOCKS: &str = "blocks";
 pub const PASSES: &str = "passes";
 /// Charts by the class of a first touch, and of a second.
 pub const CLASS: [&str; TOUCHES] = ["class of a first touch", "class of a second touch"];
+/// So many classes there are, by their numbers from 0 on.
+pub const CLASSES: usize = 6;
 /// Charts by how many tenths of their nodes are reached.
 pub const REACHED: &str = "tenths of the nodes reached";
 pub const GEOMETRY: &str = "geometry and start";
@@ -68,7 +70,7 @@ pub fn count(tally: &mut Tally, bytes: &[u8], chart: &Chart, settled: Settled, c
         tally.add_if(has, like);
     }
     for (touch, word) in CLASS.into_iter().enumerate() {
-        let mut met = [false; 5];
+        let mut met = [false; CLASSES];
         for both in classes.chunks(TOUCHES) {
             met[usize::from(both[touch])] = true;
         }

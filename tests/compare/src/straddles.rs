@@ -1,11 +1,13 @@
 //! References to more than one byte, and to two blocks, that a walk comes to, counted.
 
+use crate::kept::members;
 use crate::table::Table;
 use crate::tally::Tally;
 use charts::twins::record_of;
 use charts::Record;
 use second::chart::Chart;
 use second::limits::TOUCHES;
+use second::one_block::OneBlock;
 
 /// Charts by the kind and the size code of a reference: 0 to 2 for reads, 3 to 5 for writes.
 pub const SIZE: &str = "a reference by its kind and its size code";
@@ -13,8 +15,9 @@ pub const SIZE: &str = "a reference by its kind and its size code";
 /// Charts by where the two blocks of a node lie: 0 in one set, 1 in a set and the next, 2 in the last set and set 0.
 pub const SETS: &str = "two blocks of a node by their sets";
 
-/// Charts by the two classes of a node that touches two blocks: 0 to 2 for hit, miss and unsure after a hit, 3 to 5 after a miss, and so on.
+/// Charts by the two classes of a node that touches two blocks: 0 to 3 for hit, miss, unsure and kept after a hit, 4 to 7 after a miss, and so on.
 pub const BOTH: &str = "two classes of a node";
+pub const PAIRS: usize = 4 * 4;
 
 /// What such nodes may be like, and charts without one.
 pub const LIKE: [&str; 6] = [
@@ -26,9 +29,9 @@ pub const LIKE: [&str; 6] = [
     "no node that touches two blocks",
 ];
 
-/// What a settled chart has, with the table and the classes that the analysis has written.
-pub fn count(tally: &mut Tally, bytes: &[u8], chart: &Chart, tightest: &Table, classes: &[u8]) {
-    let (mut size, mut sets, mut both) = ([false; 6], [false; 3], [false; 9]);
+/// What a settled chart has, with the table and the classes that the analysis has written, and what is held of its blocks.
+pub fn count(tally: &mut Tally, bytes: &[u8], chart: &Chart, tightest: &Table, held: &[OneBlock], classes: &[u8]) {
+    let (mut size, mut sets, mut both) = ([false; 6], [false; 3], [false; PAIRS]);
     let mut has = [false; LIKE.len()];
     for node in (0..chart.nodes.len()).filter(|&node| tightest.marks[node] == 1) {
         let record = Record::of_bytes(record_of(bytes, node));
@@ -44,9 +47,9 @@ pub fn count(tally: &mut Tally, bytes: &[u8], chart: &Chart, tightest: &Table, c
         let wraps = chart.sets[lower] > chart.sets[upper];
         sets[if one_set { 0 } else { 1 + usize::from(wraps) }] = true;
         let [first, second] = [0, 1].map(|touch| classes[TOUCHES * node + touch]);
-        both[usize::from(3 * (first - 1) + second - 1)] = true;
+        both[4 * row(first) + row(second)] = true;
         has[0] |= one_set && chart.ways() == 1;
-        has[1] |= second != on_arrival(chart, tightest, node, upper);
+        has[1] |= second != on_arrival(chart, tightest, held, node, upper);
         has[2] |= chart.blocks[upper] == u32::MAX >> chart.header.geometry.line;
     }
     has[5] = sets == [false; 3];
@@ -60,12 +63,21 @@ pub fn count(tally: &mut Tally, bytes: &[u8], chart: &Chart, tightest: &Table, c
     }
 }
 
+/// Where a class of a touch stands in the order of `BOTH`.
+fn row(class: u8) -> usize {
+    let rows = [1, 2, 3, 5];
+    rows.into_iter()
+        .position(|number| number == class)
+        .expect("a touch of a reached node has one of these classes")
+}
+
 /// The number of the class that a touch of a block would have if it were its node's first.
-fn on_arrival(chart: &Chart, table: &Table, node: usize, block: usize) -> u8 {
+fn on_arrival(chart: &Chart, table: &Table, held: &[OneBlock], node: usize, block: usize) -> u8 {
     let cell = node * chart.blocks.len() + block;
     match (table.must[cell], table.may[cell]) {
         (must, _) if must < chart.ways() => 1,
         (_, may) if may == chart.ways() => 2,
+        _ if members(held, node, block) < chart.ways().into() => 5,
         _ => 3,
     }
 }

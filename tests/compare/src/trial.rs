@@ -6,6 +6,7 @@ use crate::bounds::Question;
 use crate::crowds;
 use crate::draw;
 use crate::features;
+use crate::kept;
 use crate::lent::{used, Lent};
 use crate::raw;
 use crate::same::{holds, Held};
@@ -85,7 +86,9 @@ fn accepted(random: &mut Random, tally: &mut Tally, bytes: &[u8], header: Header
     }
     let tightest = Table::written(&ours, header.nodes, header.blocks);
     crowds::count(tally, bytes, &chart, &tightest);
-    straddles::count(tally, bytes, &chart, &tightest, classes);
+    let held = kept::held(&chart);
+    kept::count(tally, &chart, &held, classes);
+    straddles::count(tally, bytes, &chart, &tightest, &held, classes);
     let tables = check_tables(random, tally, bytes, &chart, tightest)?;
     for _ in 0..2 {
         question(random, tally, bytes, &chart, &tables)?;
@@ -159,7 +162,9 @@ fn question(random: &mut Random, tally: &mut Tally, bytes: &[u8], chart: &Chart,
     };
     tally.at(FAULTS, faults);
     let bounds = question.lent(random);
-    _ = ask::total(tally, bytes, &table, question.costs, &bounds)?;
+    if ask::total(tally, bytes, &table, question.costs, &bounds)?.is_ok() {
+        kept::count_marked(tally, chart, &table, &tables[0].marks, &question.ceilings);
+    }
     if random.once_in(4) {
         raw::total(random, tally, bytes, &table, question.costs, &bounds)?;
     }

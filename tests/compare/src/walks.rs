@@ -3,6 +3,7 @@
 use crate::ask::{self, LentBounds};
 use crate::bounds::{costs, Question};
 use crate::lent::Lent;
+use crate::paid::{pay, Paid};
 use crate::same::{holds, Held};
 use crate::table::{LentTable, Table};
 use crate::tally::Tally;
@@ -10,16 +11,11 @@ use charts::random::Random;
 use second::cache::Cache;
 use second::chart::Chart;
 use second::header::Start;
-use second::limits::TOUCHES;
 use veilbuzz::{Costs, Totals};
 
-/// How what walks meet is counted: first and second touches by their class, walks by whether all their touches are sure.
-pub const MET: [&str; TOUCHES] = [
-    "a walk makes a first touch of class",
-    "a walk makes a second touch of class",
-];
-pub const SURE: &str = "a walk without an unsure touch";
+/// How walks are counted: by their start, and by whether all their touches are sure.
 pub const WALK: &str = "a walk from start";
+pub const SURE: &str = "a walk without an unsure or a kept touch";
 
 /// A cache as a walk may find it: empty, or with any blocks, also some that the chart does not have.
 fn found(random: &mut Random, chart: &Chart) -> Cache {
@@ -49,46 +45,6 @@ fn walk(random: &mut Random, chart: &Chart) -> Vec<usize> {
         nodes.push(targets[random.below(targets.len() as u64) as usize]);
     }
     nodes
-}
-
-/// Walks on what the archive's analysis has written, touch by touch. What the walk costs, and whether all its touches are sure.
-fn pay(
-    tally: &mut Tally,
-    chart: &Chart,
-    ours: &Lent,
-    mut cache: Cache,
-    costs: Costs,
-    walk: &[usize],
-) -> Held<(u64, bool)> {
-    let (mut paid, mut sure) = (0, true);
-    for &node in walk {
-        holds(ours.marks.lent()[node] == 1, || {
-            format!("a walk comes to {node}, which is not marked")
-        })?;
-        for (column, &block) in chart.blocks.iter().enumerate() {
-            let cell = node * chart.blocks.len() + column;
-            let (may, age, must) = (ours.may.lent()[cell], cache.age(block), ours.must.lent()[cell]);
-            holds(may <= age && age <= must, || {
-                format!("at node {node} block {block} has age {age}, and may {may} and must {must}")
-            })?;
-        }
-        for (touch, hit) in cache.visit(chart, node).into_iter().enumerate() {
-            let class = ours.classes.lent()[TOUCHES * node + touch];
-            paid += match (hit, class) {
-                (None, 4) => 0,
-                (Some(true), 1 | 3) => u64::from(costs.hit),
-                (Some(false), 2 | 3) => u64::from(costs.miss),
-                (hit, class) => {
-                    return Err(format!(
-                        "at touch {touch} of node {node}, of class {class}, a walk finds {hit:?}"
-                    ))
-                }
-            };
-            sure &= class != 3;
-            tally.at(MET[touch], class.into());
-        }
-    }
-    Ok((paid, sure))
 }
 
 /// Floors and ceilings that a walk keeps: its own visits, or around them.
@@ -143,7 +99,7 @@ pub fn hold(
     let costs = costs(random);
     let walk = walk(random, chart);
     let cache = found(random, chart);
-    let (paid, sure) = pay(tally, chart, ours, cache, costs, &walk)?;
+    let Paid { paid, totals, sure } = pay(tally, chart, ours, cache, costs, &walk)?;
     tally.at(WALK, (chart.header.start == Start::Empty).into());
     tally.add_if(sure && paid > 0, SURE);
     let mut visits = vec![0; chart.nodes.len()];
@@ -157,9 +113,12 @@ pub fn hold(
     };
     for (number, table) in tables.iter().enumerate() {
         let table = LentTable::of(random, table);
-        let totals = between(tally, bytes, &table, costs, &own.lent(random), paid)?;
-        holds(number > 0 || !sure || totals.low == totals.high, || {
-            format!("a sure walk costs {paid}, and has {totals:?} with {own:?}")
+        let close = between(tally, bytes, &table, costs, &own.lent(random), paid)?;
+        holds(number > 0 || close == totals, || {
+            format!("a walk costs {paid}, and has {close:?} and not {totals:?} with {own:?}")
+        })?;
+        holds(number > 0 || !sure || close.low == close.high, || {
+            format!("a sure walk costs {paid}, and has {close:?} with {own:?}")
         })?;
         between(tally, bytes, &table, costs, &around(random, &visits), paid)?;
     }

@@ -64,10 +64,10 @@ fn the_random_charts_meet_every_refusal_and_every_word_often_enough() {
         let begins = format!("refused {number} at ");
         met(20, format!("refusal {number}"), &|report| report.starts_with(&begins));
     }
-    for word in ["unreached", "hit", "miss", "unsure", "none"] {
+    for word in ["unreached", "hit", "miss", "unsure", "none", "kept"] {
         let (first, second) = (format!(" {word} "), format!(" {word}\n"));
         met(150, format!("the first word {word}"), &|report| report.contains(&first));
-        met(100, format!("the second word {word}"), &|report| {
+        met(60, format!("the second word {word}"), &|report| {
             report.contains(&second)
         });
     }

@@ -12,7 +12,7 @@ const RULES: &str = "docs/RULES.md";
 const TRACE: &str = "docs/TRACE.md";
 
 /// How many rules each section has at least: a number belongs to its rule for good.
-const AT_LEAST: [usize; 14] = [4, 12, 4, 7, 3, 7, 9, 2, 6, 3, 18, 9, 3, 4];
+const AT_LEAST: [usize; 16] = [4, 12, 4, 7, 3, 7, 9, 2, 6, 4, 18, 9, 3, 4, 6, 8];
 
 /// All rules, in their order.
 fn rules() -> Vec<Rule> {
@@ -111,7 +111,7 @@ fn from_page(page: &str, target: &str) -> String {
 fn sections_are_numbered_from_1_on_and_each_has_an_example() {
     let page = text(RULES);
     let sections = sections(&page);
-    enough("sections", 14, sections.len());
+    enough("sections", 16, sections.len());
     let headings = page.lines().filter(|line| line.starts_with("## ")).count();
     assert_eq!(sections.len(), headings, "a heading of {RULES} has no number");
     for (before, section) in sections.iter().enumerate() {

@@ -11,7 +11,7 @@ const CHART: [u8; 32] = [
 
 const REPORT: &str = "nodes 3 blocks 1 passes 2\n\
                       0 none none\n\
-                      1 unsure none\n\
+                      1 kept none\n\
                       2 hit none\n";
 
 #[test]

@@ -2,6 +2,7 @@
 
 use crate::chart::Chart;
 use crate::class::Class;
+use crate::kept::Kept;
 use crate::limits::TOUCHES;
 use crate::passes::settle;
 use crate::refusal::Refusal;
@@ -48,8 +49,9 @@ pub fn analyse(bytes: &[u8], allowance: usize, lent: Buffers) -> Analysed {
         classes.fill(0);
         return Analysed::Unsettled { allowance, blocks };
     };
+    let kept = Kept::of(&chart);
     for (node, classes) in classes.chunks_exact_mut(TOUCHES).enumerate() {
-        let both = Class::of(&chart, table.lent(), node);
+        let both = Class::of(&chart, table.lent(), &kept, node);
         classes.copy_from_slice(&both.map(|class| class as u8));
     }
     Analysed::Settled { passes, blocks }

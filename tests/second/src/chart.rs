@@ -34,7 +34,7 @@ pub struct Chart {
 impl Chart {
     pub fn read(bytes: &[u8]) -> Result<Chart, Refusal> {
         let header = Header::read(bytes)?;
-        let records = kept(bytes, header.nodes)?;
+        let records = keeping(bytes, header.nodes)?;
         let blocks = blocks(&records, header.geometry)?;
         let sets = blocks.iter().map(|&block| header.geometry.set_of(block)).collect();
         let nodes = records
@@ -72,7 +72,7 @@ pub fn records(bytes: &[u8]) -> impl Iterator<Item = RecordFields> + '_ {
 }
 
 /// The records, if all keep their rules.
-fn kept(bytes: &[u8], nodes: usize) -> Result<Vec<Record>, Refusal> {
+fn keeping(bytes: &[u8], nodes: usize) -> Result<Vec<Record>, Refusal> {
     eights(bytes)
         .enumerate()
         .map(|(node, record)| Record::read(record, nodes).ok_or(Refusal::at(9, node)))

@@ -1,4 +1,5 @@
 use crate::chart::Chart;
+use crate::kept::Kept;
 use crate::lent::Lent;
 use crate::limits::TOUCHES;
 use crate::state::State;
@@ -11,18 +12,20 @@ pub enum Class {
     Miss = 2,
     Unsure = 3,
     None = 4,
+    Kept = 5,
 }
 
 impl Class {
     /// The classes of a node under a table, one for each touch that it can make. The second goes by the state after the first (rule 8.2).
-    pub fn of(chart: &Chart, lent: Lent, node: usize) -> [Class; TOUCHES] {
+    pub fn of(chart: &Chart, lent: Lent, kept: &Kept, node: usize) -> [Class; TOUCHES] {
         if !lent.marked(node) {
             return [Class::Unreached; TOUCHES];
         }
         let (must, may) = lent.rows(chart, node);
+        let [first, second] = kept.at(node);
         match chart.nodes[node].touches {
             [None, _] => [Class::None; TOUCHES],
-            [Some(m), None] => [Class::known(chart, must[m], may[m]), Class::None],
+            [Some(m), None] => [Class::known(chart, must[m], may[m], first), Class::None],
             [Some(lower), Some(upper)] => {
                 let mut state = State {
                     must: must.to_vec(),
@@ -30,19 +33,21 @@ impl Class {
                 };
                 state.touch(chart, lower);
                 [
-                    Class::known(chart, must[lower], may[lower]),
-                    Class::known(chart, state.must[upper], state.may[upper]),
+                    Class::known(chart, must[lower], may[lower], first),
+                    Class::known(chart, state.must[upper], state.may[upper], second),
                 ]
             }
         }
     }
 
-    /// The class of a touch by the ages of its block just before it.
-    fn known(chart: &Chart, must: u8, may: u8) -> Class {
+    /// The class of a touch by what there is of its block just before it: its ages, and whether it is kept.
+    fn known(chart: &Chart, must: u8, may: u8, kept: bool) -> Class {
         if must < chart.ways() {
             Class::Hit
         } else if may == chart.ways() {
             Class::Miss
+        } else if kept {
+            Class::Kept
         } else {
             Class::Unsure
         }

@@ -28,3 +28,9 @@ pub const LONGEST: usize = length(NODES);
 
 /// No accepted chart needs more passes.
 pub const PASSES: usize = NODES * (1 + 2 * BLOCKS * WAYS) + 1;
+
+/// In a chart of so many nodes no block needs more passes for its own table (rule 16.7): each but the last changes a node, and that can be
+/// marked, touched, and get each other block.
+pub const fn passes_of_a_block(nodes: usize) -> usize {
+    nodes * (1 + BLOCKS) + 1
+}

@@ -11,7 +11,7 @@ use std::fmt::Write;
 pub const INPUT: usize = LONGEST + 1;
 
 /// The word of each class by its number.
-const WORDS: [&str; 5] = ["unreached", "hit", "miss", "unsure", "none"];
+const WORDS: [&str; 6] = ["unreached", "hit", "miss", "unsure", "none", "kept"];
 
 pub fn report(input: &[u8]) -> String {
     let input = &input[..input.len().min(INPUT)];

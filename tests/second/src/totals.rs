@@ -4,6 +4,7 @@ use crate::cache::Costs;
 use crate::chart::Chart;
 use crate::checker::check;
 use crate::class::Class;
+use crate::kept::Kept;
 use crate::lent::Lent;
 use crate::refusal::Refusal;
 
@@ -50,20 +51,31 @@ fn refuse(chart: &Chart, lent: Lent, costs: Costs, bounds: Bounds) -> Result<(),
     Ok(())
 }
 
-/// What the touches of marked nodes add. The largest sum is that of the most classes, times the square of 65,535.
+/// What the touches of marked nodes add, and what comes to the high total once for each block that has kept ones (rule 10.4). The largest sum
+/// is that of the most classes, times the square of 65,535.
 fn sums(chart: &Chart, lent: Lent, costs: Costs, bounds: Bounds) -> Totals {
+    let kept = Kept::of(chart);
     let mut totals = Totals { low: 0, high: 0 };
-    for node in 0..chart.nodes.len() {
-        for class in Class::of(chart, lent, node) {
+    // the blocks that are kept where a walk may come
+    let mut loaded = vec![false; chart.blocks.len()];
+    for (number, node) in chart.nodes.iter().enumerate() {
+        let (floor, ceiling) = (bounds.floors[number], bounds.ceilings[number]);
+        for (m, class) in node.touched().zip(Class::of(chart, lent, &kept, number)) {
             let (least, most) = match class {
                 Class::Unreached | Class::None => continue,
                 Class::Hit => (costs.hit, costs.hit),
                 Class::Miss => (costs.miss, costs.miss),
+                Class::Kept => {
+                    loaded[m] |= ceiling > 0;
+                    (costs.hit, costs.hit)
+                }
                 Class::Unsure => (costs.hit, costs.miss),
             };
-            totals.low += u64::from(bounds.floors[node]) * u64::from(least);
-            totals.high += u64::from(bounds.ceilings[node]) * u64::from(most);
+            totals.low += u64::from(floor) * u64::from(least);
+            totals.high += u64::from(ceiling) * u64::from(most);
         }
     }
+    let once = loaded.into_iter().filter(|&loaded| loaded).count() as u64;
+    totals.high += once * u64::from(costs.miss - costs.hit);
     totals
 }

@@ -19,17 +19,17 @@ fn classes(addresses: [u64; 3], sets: u64, ways: u64, start: u64) -> Vec<u8> {
 
 #[test]
 fn one_set_of_two_ways() {
-    assert_eq!(classes([0x00, 0x10, 0x00], 0, 2, UNKNOWN), [3, 3, 1]);
+    assert_eq!(classes([0x00, 0x10, 0x00], 0, 2, UNKNOWN), [5, 5, 1]);
     assert_eq!(classes([0x00, 0x10, 0x00], 0, 2, EMPTY), [2, 2, 1]);
 }
 
 #[test]
 fn one_set_of_one_way() {
-    assert_eq!(classes([0x00, 0x10, 0x00], 0, 1, UNKNOWN), [3, 2, 2]);
+    assert_eq!(classes([0x00, 0x10, 0x00], 0, 1, UNKNOWN), [5, 2, 2]);
 }
 
 #[test]
 fn sets_and_ways_are_not_the_same() {
-    assert_eq!(classes([0x00, 0x20, 0x00], 0, 2, UNKNOWN), [3, 3, 1]);
-    assert_eq!(classes([0x00, 0x20, 0x00], 1, 1, UNKNOWN), [3, 2, 2]);
+    assert_eq!(classes([0x00, 0x20, 0x00], 0, 2, UNKNOWN), [5, 5, 1]);
+    assert_eq!(classes([0x00, 0x20, 0x00], 1, 1, UNKNOWN), [5, 2, 2]);
 }

@@ -14,7 +14,7 @@ fn the_sample_has_the_report_of_section_14() {
     ];
     assert_eq!(
         report(&sample),
-        "nodes 3 blocks 1 passes 2\n0 none none\n1 unsure none\n2 hit none\n"
+        "nodes 3 blocks 1 passes 2\n0 none none\n1 kept none\n2 hit none\n"
     );
 }
 
@@ -43,7 +43,7 @@ fn eight_ways_pass_and_0_and_9_do_not() {
     let ways = |ways| report(&Chart::sample().shaped(0, ways, 1).bytes());
     assert_eq!(
         ways(8),
-        "nodes 3 blocks 1 passes 2\n0 none none\n1 unsure none\n2 hit none\n"
+        "nodes 3 blocks 1 passes 2\n0 none none\n1 kept none\n2 hit none\n"
     );
     assert_eq!(ways(0), "refused 3 at 0\n");
     assert_eq!(ways(9), "refused 3 at 0\n");
@@ -64,7 +64,7 @@ fn an_arrow_to_n_gives_9_and_to_n_less_1_passes() {
     assert_eq!(leading_to(3), "refused 9 at 2\n");
     assert_eq!(
         leading_to(2),
-        "nodes 3 blocks 1 passes 2\n0 none none\n1 unsure none\n2 hit none\n"
+        "nodes 3 blocks 1 passes 2\n0 none none\n1 kept none\n2 hit none\n"
     );
 }
 
@@ -80,7 +80,7 @@ fn two_arrows_to_one_node_give_9_and_to_two_nodes_pass() {
     }
     assert_eq!(
         leading_to(2, 0),
-        "nodes 3 blocks 1 passes 2\n0 none none\n1 unsure none\n2 hit none\n"
+        "nodes 3 blocks 1 passes 2\n0 none none\n1 kept none\n2 hit none\n"
     );
 }
 

@@ -32,26 +32,29 @@ fn sounded(change: impl Fn(&mut Lending)) -> (u64, u64) {
     totals(&chart, &table, COSTS, &[1, 1, 1], &[1, 10, 1])
 }
 
-/// A chart with a node of each class: a miss, a hit, a step, an unsure read that loops on itself, a step, and a read that is not reached.
+/// A chart with a node of each class: a miss, a hit, a step, a kept read that loops on itself, a read that a step leads past, then an unsure
+/// read, and one that is not reached.
 fn classes() -> Vec<u8> {
     let chart = Chart::of(vec![
         Record::read(0x00).to(1),
         Record::read(0x00).to(2),
         Record::step().to(3),
         Record::read(0x10).to(3).to(4),
-        Record::step(),
-        Record::read(0x20),
+        Record::step().to(5).to(6),
+        Record::read(0x20).to(6),
+        Record::read(0x00),
+        Record::read(0x30),
     ]);
     assert_eq!(
-        settled(&chart.bytes()).classes[..12],
-        [2, 4, 1, 4, 4, 4, 3, 4, 4, 4, 0, 0]
+        settled(&chart.bytes()).classes[..16],
+        [2, 4, 1, 4, 4, 4, 5, 4, 4, 4, 2, 4, 3, 4, 0, 0]
     );
     chart.bytes()
 }
 
 #[test]
-fn the_loop_chart_has_totals_2_and_101() {
-    assert_eq!(sounded(|_| ()), (2, 101));
+fn the_loop_chart_has_totals_2_and_20() {
+    assert_eq!(sounded(|_| ()), (2, 20));
 }
 
 #[test]
@@ -60,16 +63,21 @@ fn each_class_adds_its_own() {
     let table = settled(&chart);
     let costs = Costs { hit: 3, miss: 7 };
     let alone = |node: usize| {
-        let (mut floors, mut ceilings) = ([0; 6], [0; 6]);
-        // no walk reaches node 5, so that its floor is 0
-        floors[node] = if node == 5 { 0 } else { 100 };
+        let (mut floors, mut ceilings) = ([0; 8], [0; 8]);
+        // no walk reaches node 7, so that its floor is 0
+        floors[node] = if node == 7 { 0 } else { 100 };
         ceilings[node] = 1_000;
         totals(&chart, &table, costs, &floors, &ceilings)
     };
-    let each = [(700, 7_000), (300, 3_000), (0, 0), (300, 7_000), (0, 0), (0, 0)];
-    assert_eq!([0, 1, 2, 3, 4, 5].map(alone), each);
-    let sum = totals(&chart, &table, costs, &[1, 2, 3, 4, 5, 0], &[10, 20, 30, 40, 50, 60]);
-    assert_eq!(sum, (7 + 2 * 3 + 4 * 3, 10 * 7 + 20 * 3 + 40 * 7));
+    let (miss, hit, none) = ((700, 7_000), (300, 3_000), (0, 0));
+    let (kept, unsure) = ((300, 3_004), (300, 7_000));
+    let each = [miss, hit, none, kept, none, miss, unsure, none];
+    assert_eq!([0, 1, 2, 3, 4, 5, 6, 7].map(alone), each);
+    let (floors, ceilings) = ([1, 2, 3, 4, 5, 6, 7, 0], [10, 20, 30, 40, 50, 60, 70, 80]);
+    let sum = totals(&chart, &table, costs, &floors, &ceilings);
+    let low = 7 + 2 * 3 + 4 * 3 + 6 * 7 + 7 * 3;
+    let high = 10 * 7 + 20 * 3 + (40 * 3 + 4) + 60 * 7 + 70 * 7;
+    assert_eq!(sum, (low, high));
 }
 
 #[test]
@@ -77,7 +85,7 @@ fn a_floor_equal_to_its_ceiling_passes() {
     let chart = Chart::sample().bytes();
     assert_eq!(
         totals(&chart, &settled(&chart), COSTS, &[1, 10, 1], &[1, 10, 1]),
-        (11, 101)
+        (11, 20)
     );
     assert_eq!(totals(&chart, &settled(&chart), COSTS, &[0; 3], &[0; 3]), (0, 0));
 }
@@ -108,7 +116,7 @@ fn tails_are_not_looked_at() {
         table.may.truncate(3);
         table.marks.truncate(3);
     });
-    assert_eq!((garbage, exact), ((2, 101), (2, 101)));
+    assert_eq!((garbage, exact), ((2, 20), (2, 20)));
 }
 
 #[test]
@@ -117,34 +125,37 @@ fn the_block_list_and_the_classes_are_no_part_of_the_table() {
         table.blocks.clear();
         table.classes.clear();
     });
-    assert_eq!(without, (2, 101));
+    assert_eq!(without, (2, 20));
 }
 
 #[test]
-fn a_passing_table_that_is_not_the_tightest_has_totals_no_tighter() {
-    assert_eq!(sounded(|table| table.must[2] = 2), (2, 110));
-    assert_eq!(sounded(|table| table.may[..3].fill(0)), (2, 101));
+fn a_passing_table_that_is_not_the_tightest_has_its_own_totals() {
+    // the last read is kept as well then, and its block is paid for already
+    assert_eq!(sounded(|table| table.must[2] = 2), (2, 20));
+    assert_eq!(sounded(|table| table.may[..3].fill(0)), (2, 20));
     let chart = Chart::straight(&[0x00, 0x10, 0x00]).bytes();
     let tightest = settled(&chart);
     let mut loosest = tightest.clone();
     loosest.must[..6].fill(2);
     loosest.may[..6].fill(0);
     assert_eq!(totals(&chart, &tightest, COSTS, &[1; 3], &[1; 3]), (21, 21));
-    assert_eq!(totals(&chart, &loosest, COSTS, &[1; 3], &[1; 3]), (3, 30));
+    assert_eq!(totals(&chart, &loosest, COSTS, &[1; 3], &[1; 3]), (3, 21));
+    // what the tightest calls a miss is kept in the loosest, and pays for one
+    assert_eq!(totals(&chart, &tightest, COSTS, &[0; 3], &[9; 3]), (0, 189));
+    assert_eq!(totals(&chart, &loosest, COSTS, &[0; 3], &[9; 3]), (0, 45));
 }
 
 #[test]
 fn a_node_that_a_table_marks_adds_though_no_walk_reaches_it() {
     let chart = classes();
     let mut table = settled(&chart);
-    let blocks = 3;
-    table.marks[5] = 1;
-    table.must[5 * blocks..6 * blocks].fill(2);
-    table.may[5 * blocks..6 * blocks].fill(0);
-    assert_eq!(
-        totals(&chart, &table, COSTS, &[0, 0, 0, 0, 0, 4], &[0, 0, 0, 0, 0, 6]),
-        (4, 60)
-    );
+    let blocks = 4;
+    table.marks[7] = 1;
+    table.must[7 * blocks..8 * blocks].fill(2);
+    table.may[7 * blocks..8 * blocks].fill(0);
+    let (floors, ceilings) = ([0, 0, 0, 0, 0, 0, 0, 4], [0, 0, 0, 0, 0, 0, 0, 6]);
+    // nothing is touched there, so that its read is kept
+    assert_eq!(totals(&chart, &table, COSTS, &floors, &ceilings), (4, 6 + 9));
 }
 
 #[test]

@@ -8,7 +8,7 @@ use second::refusal::Refusal;
 use second::totals::Totals;
 
 /// What the question's totals are as long as nothing that adds to them changes.
-const SAME: Result<Totals, Refusal> = Ok(Totals { low: 2, high: 101 });
+const SAME: Result<Totals, Refusal> = Ok(Totals { low: 2, high: 20 });
 
 /// The answer with these floors and ceilings.
 fn bounded(floors: [u16; NODES], ceilings: [u16; NODES]) -> Result<Totals, Refusal> {

@@ -52,7 +52,7 @@ fn refused_charts() -> Vec<(Refusal, Vec<u8>)> {
 
 #[test]
 fn without_a_fault_there_are_totals() {
-    assert_eq!(after(|_| ()), Ok(Totals { low: 2, high: 101 }));
+    assert_eq!(after(|_| ()), Ok(Totals { low: 2, high: 20 }));
 }
 
 #[test]

@@ -10,15 +10,24 @@ pub const BEFORE: Option<Analysis> = Some(linked::analyse);
 #[cfg(not(before))]
 pub const BEFORE: Option<Analysis> = None;
 
-/// Whether both have left the same. An archive from before a node had two classes writes one for each node, into the first half of the buffer:
-/// of a chart whose nodes touch one block it is the first of today's two.
+/// The numbers of two classes: before there was the one, what it says was called the other.
+const KEPT: u8 = 5;
+const UNSURE: u8 = 3;
+
+/// Whether both have left the same, but for what an archive from before a change does not know. One that calls nothing kept calls it unsure. One
+/// from before a node had two classes writes one for each node, into the first half of the buffer: of a chart whose nodes touch one block it is
+/// the first of today's two.
 pub fn agree(now: &Lending, before: &Lending) -> bool {
+    let (mut now, mut before) = (now.clone(), before.clone());
+    if !before.classes.contains(&KEPT) {
+        let kept = now.classes.iter_mut().filter(|class| **class == KEPT);
+        kept.for_each(|class| *class = UNSURE);
+    }
     let first: Vec<u8> = now.classes.iter().copied().step_by(TOUCHES).collect();
-    let mut before = before.clone();
     if before.classes.starts_with(&first) {
         before.classes.clone_from(&now.classes);
     }
-    *now == before
+    now == before
 }
 
 #[cfg(before)]

@@ -40,7 +40,7 @@ fn main() {
 }
 
 fn table(picture: &str) {
-    println!("| chart | nodes | blocks | cleared | passes | ours, µs | second, µs | ours / second | passes alone: ours / second |");
+    println!("| chart | nodes | blocks | cleared | passes | ours, µs | second, µs | ours / second | passes, sets and classes alone: ours / second |");
     println!("|---|---|---|---|---|---|---|---|---|");
     let measured: Vec<(Case, f64)> = Case::all()
         .map(|case| {
@@ -52,7 +52,15 @@ fn table(picture: &str) {
     for case in Case::straddling() {
         println!("{}", row(case, &case.measure()));
     }
+    let [most, fewer] = [true, false].map(|most| largest(&measured, most));
+    println!("\nlargest ratio, straddling apart: {most:.2} with {BLOCKS} blocks, {fewer:.2} with fewer");
     fs::write(picture, plot::svg(&measured)).expect("the picture can be written");
+}
+
+/// The largest ratio of charts that have the most blocks, or fewer.
+fn largest(measured: &[(Case, f64)], most: bool) -> f64 {
+    let ratios = measured.iter().filter(|(case, _)| (case.blocks == BLOCKS) == most);
+    ratios.map(|&(_, ratio)| ratio).fold(0.0, f64::max)
 }
 
 fn row(case: Case, measure: &Measure) -> String {
@@ -64,22 +72,26 @@ fn row(case: Case, measure: &Measure) -> String {
         "| {name} | {nodes} | {blocks} | {cleared} | {} | {ours:.2} | {second:.2} | {:.2} | {:.2} |",
         measure.passes,
         ratio(measure.whole.best),
-        ratio(measure.passes_alone())
+        ratio(measure.after_reading())
     )
 }
 
 fn changed() {
     let before = BEFORE.expect("tests/speed/before FOLDER, with the folder of the archive before the change");
-    println!("| chart | nodes | blocks | before, µs | now, µs | now / before | beside the passes: now / before |");
-    println!("|---|---|---|---|---|---|---|");
+    println!(
+        "| chart | nodes | blocks | before, µs | now, µs | more, µs | now / before | beside the passes: now / before |"
+    );
+    println!("|---|---|---|---|---|---|---|---|");
     for case in Case::changed().filter(|case| case.taken_by(before)) {
         let measure = case.compare([OURS, before], agree);
         let Case { nodes, blocks, .. } = case;
         let name = case.kind.name();
         let [now, then] = measure.whole.best;
         println!(
-            "| {name} | {nodes} | {blocks} | {then:.2} | {now:.2} | {:.3} | {:.3} |",
-            measure.whole.ratio, measure.rest.ratio
+            "| {name} | {nodes} | {blocks} | {then:.2} | {now:.2} | {:.2} | {:.3} | {:.3} |",
+            now - then,
+            measure.whole.ratio,
+            measure.rest.ratio
         );
     }
 }

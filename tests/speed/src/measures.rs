@@ -36,7 +36,8 @@ pub struct Readings {
 }
 
 impl Measure {
-    pub fn passes_alone(&self) -> Times {
+    /// The passes, the kept sets and the classes.
+    pub fn after_reading(&self) -> Times {
         [0, 1].map(|whose| self.whole.best[whose] - self.rest.best[whose])
     }
 }

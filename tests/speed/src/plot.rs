@@ -14,6 +14,8 @@ const WIDTH: f64 = 760.0;
 const LEFT: f64 = 96.0;
 const UNIT: f64 = 280.0;
 const BAR: f64 = 17.0;
+/// How long a bar has to be for a number on it.
+const NUMBER: f64 = 44.0;
 /// From one chart's two bars to the next chart's.
 const STEP: f64 = 2.0 * BAR + 9.0;
 const TOP: f64 = 84.0;
@@ -47,14 +49,15 @@ fn bar(out: &mut String, y: f64, case: Case, ratio: f64) {
         text(out, [LEFT - 8.0, y + BAR + 4.0], "end", INK, case.kind.name());
     }
     let colour = if case.cleared { CLEARED } else { AS_LEFT };
-    rectangle(out, [LEFT, y + 1.0], [ratio * UNIT, BAR - 2.0], colour);
-    text(
-        out,
-        [LEFT + 6.0, y + BAR - 4.0],
-        "start",
-        ON_BARS,
-        &format!("{ratio:.2}"),
-    );
+    let length = ratio * UNIT;
+    rectangle(out, [LEFT, y + 1.0], [length, BAR - 2.0], colour);
+    // behind a bar that is too short to be written on
+    let (x, ink) = if length < NUMBER {
+        (LEFT + length, INK)
+    } else {
+        (LEFT, ON_BARS)
+    };
+    text(out, [x + 6.0, y + BAR - 4.0], "start", ink, &format!("{ratio:.2}"));
 }
 
 fn legend(out: &mut String) {

@@ -1,6 +1,7 @@
 use borrow.Author.Needs.{needs}
 use native.Mathlib.Omega.{arith}
 use Prim.Native.Nat.{ℕ, _+_, _*_, _<_}
+use mathlib.Core.Bool.{false}
 use mathlib.Core.Path.{_≡_, ap, sym, subst, _∙_}
 use denote.Ref.{now}
 use lib.ListN.{getD}
@@ -121,10 +122,11 @@ class-of-requires c κs = search needs
 first-is : (c : tie.After-class-of) → c .class-of .result ≡ classBy (getD (now (given (c .before .before .before .before) .args .columns)) (mostBlocks + made (c .before .before .before .before) .lower) 0)
     (pairAt (now (given (c .before .before .before .before) .args .must)) (now (given (c .before .before .before .before) .args .may)) (given (c .before .before .before .before) .args .n * blocksIn (now (given (c .before .before .before .before) .args .plan)) + made (c .before .before .before .before) .lower) .must)
     (pairAt (now (given (c .before .before .before .before) .args .must)) (now (given (c .before .before .before .before) .args .may)) (given (c .before .before .before .before) .args .n * blocksIn (now (given (c .before .before .before .before) .args .plan)) + made (c .before .before .before .before) .lower) .may)
+    false
 first-is c =
     let q = c .before .before .before .before in
     c .class-of .ensures
-    ∙ ap (λ (pair : Pair). classBy (getD (now (given q .args .columns)) (mostBlocks + made q .lower) 0) (pair .must) (pair .may)) (c .before .before .before .pair-at .ensures ∙ pair-is q (made q .lower))
+    ∙ ap (λ (pair : Pair). classBy (getD (now (given q .args .columns)) (mostBlocks + made q .lower) 0) (pair .must) (pair .may) false) (c .before .before .before .pair-at .ensures ∙ pair-is q (made q .lower))
 
 returns-3 : tie.Need-returns-3
 returns-3 c =

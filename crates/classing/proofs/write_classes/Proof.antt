@@ -1,109 +1,37 @@
 use borrow.Author.Needs.{needs}
-use Prim.Native.Nat.{ℕ, _+_, _*_, _/_, _%_, _≤_, _-_}
-use mathlib.Core.List.{List}
-use mathlib.Core.Path.{_≡_, ap, sym, _∙_}
 use native.Mathlib.Omega.{arith}
-use denote.Ref.{now}
-use lib.ListN.{length, length-set}
-use Rattle.lists.specs.Loops.{patch}
-use Rattle.lists.proofs.Loops.{patch-turn0, patch-written}
-use Rattle.chart.specs.Geometry.{mostTouches}
-use Rattle.flow.specs.Flow.{cellAt}
-use Rattle.classes.specs.Class.{nodeClass}
-use Rattle.plan.specs.Listed.{nodesIn, planIn}
-use Rattle.tables.specs.Lent.{Lent, tableOf}
-use Rattle.tables.specs.Contract.{lentTable}
-use Rattle.classing.specs.declared.Classes.{Classes}
-use Rattle.classes.proofs.Places.{first-place, second-place}
 use Rattle.classing.proofs.write_classes.Statement.{statement}
 use Rattle.classing.proofs.write_classes.Tie as tie
 
--- Class k of a node, and the classes of all nodes in one list, as they are defined.
-abbrev classOf : List ℕ → List ℕ → Lent → ℕ → ℕ → ℕ
-classOf columns plan lent n k = nodeClass (planIn columns plan) n k (cellAt (tableOf (planIn columns plan) lent) n)
+slice-aggregate-write-stays : tie.Need-slice-aggregate-write-stays
+slice-aggregate-write-stays c = search needs
 
-abbrev classAt : List ℕ → List ℕ → Lent → ℕ → ℕ
-classAt columns plan lent i = classOf columns plan lent (i / mostTouches) (i % mostTouches)
+write-stays-requires : tie.Need-write-stays-requires
+write-stays-requires c κs =
+    let s = c .before .before .before .before .before .before .before in
+    (s .pre .0, omega (arith, s .pre .0 .few-nodes))
 
-abbrev Inv-loop : tie.InvT-loop
-Inv-loop columns plan must may marks classes₀ nodes n₀ classes n =
-    (n ≤ nodes)
-    × ((length classes ≡ length classes₀)
-    × (classes ≡ patch classes₀ 0 (mostTouches * n) (classAt columns plan (record { must = must; may = may; marks = marks }))))
+slice-aggregate-put-classes : tie.Need-slice-aggregate-put-classes
+slice-aggregate-put-classes c = search needs
 
-abbrev μ-loop : tie.MeasureT-loop
-μ-loop columns plan must may marks classes₀ nodes n₀ classes n = nodes - n
+put-classes-requires : tie.Need-put-classes-requires
+put-classes-requires c κs =
+    let s = c .before .before .before .before .before .before .before .before .before .before .before in
+    (s .pre .0, (s .pre .1 .0, ((omega (arith, s .pre .0 .few-nodes), s .pre .1 .1), c .before .before .before .write-stays .ensures)))
 
-nodes-in-requires : tie.Need-nodes-in-requires Inv-loop μ-loop
-nodes-in-requires c κs = search needs
-
-loop-holds : tie.Need-loop-holds Inv-loop μ-loop
-loop-holds c = search needs
-
-classes-at-requires : tie.Need-classes-at-requires Inv-loop μ-loop
-classes-at-requires c κs = (c .before .before .before .before .before .before .before .before .before .pre .0, (c .before .before .before .before .before .before .before .before .before .pre .1 .0, search needs))
-
-mul-classes : tie.Need-mul-classes Inv-loop μ-loop
-mul-classes c = search needs
-
-slice-write-classes : tie.Need-slice-write-classes Inv-loop μ-loop
-slice-write-classes c = omega (arith, c .before .before .before .before .before .before .before .before .before .before .pre .1 .1, c .before .before .before .nodes-in .ensures, c .before .before .loop .inv .1 .0, c .before .loop-test .taken)
-
-mul-classes-2 : tie.Need-mul-classes-2 Inv-loop μ-loop
-mul-classes-2 c = search needs
-
-add-classes : tie.Need-add-classes Inv-loop μ-loop
-add-classes c = search needs
-
-slice-write-classes-2 : tie.Need-slice-write-classes-2 Inv-loop μ-loop
-slice-write-classes-2 c = simp length-set (omega (arith, c .before .before .before .before .before .before .before .before .before .before .pre .1 .1, c .before .before .before .nodes-in .ensures, c .before .before .loop .inv .1 .0, c .before .loop-test .taken))
-
-add-n : tie.Need-add-n Inv-loop μ-loop
-add-n c = search needs
-
-loop-less : tie.Need-loop-less Inv-loop μ-loop
-loop-less c = search needs
-
-loop-again : tie.Need-loop-again Inv-loop μ-loop
-loop-again c =
-    let a = c .before .before .before .before .before .before .before .before .before .before .args in
-    let l = c .before .before .loop in
-    let f : ℕ → ℕ = classAt (now (a .columns)) (now (a .plan)) (lentTable (a .must) (a .may) (a .marks)) in
-    let class : ℕ → ℕ → ℕ = classOf (now (a .columns)) (now (a .plan)) (lentTable (a .must) (a .may) (a .marks)) in
-    let first : class (l .n) 0 ≡ f (mostTouches * l .n) = λ i. class (sym (first-place (l .n) .0) i) (sym (first-place (l .n) .1) i) in
-    let second : class (l .n) 1 ≡ f (mostTouches * l .n + 1) = λ i. class (sym (second-place (l .n) .0) i) (sym (second-place (l .n) .1) i) in
-    let once = patch-turn0 (a .classes .now) (mostTouches * l .n) f (l .classes) (c .classes-at .result .first) (l .inv .1 .1) (ap (λ (both : Classes). both .first) (c .classes-at .ensures) ∙ first) in
-    let twice = patch-turn0 (a .classes .now) (mostTouches * l .n + 1) f _ (c .classes-at .result .second) once (ap (λ (both : Classes). both .second) (c .classes-at .ensures) ∙ second) in
-    let places : mostTouches * l .n + 1 + 1 ≡ mostTouches * (l .n + 1) = omega arith in
-    (search needs, (search needs, twice ∙ ap (λ (k : ℕ). patch (a .classes .now) 0 k f) places))
-
-same-length : tie.Need-same-length Inv-loop μ-loop
+same-length : tie.Need-same-length
 same-length c = search needs
 
-returns : tie.Need-returns Inv-loop μ-loop
-returns c =
-    let s = c .before .before .before .before .before .before .before .before .before in
-    let a = s .args in
-    let e : c .before .loop .n ≡ nodesIn (now (a .plan)) = omega (arith, c .before .before .nodes-in .ensures) in
-    (rw e at (c .before .loop .inv .1 .1))
-    ∙ patch-written (a .classes .now) (mostTouches * nodesIn (now (a .plan))) (classAt (now (a .columns)) (now (a .plan)) (lentTable (a .must) (a .may) (a .marks))) (s .pre .1 .1)
+returns : tie.Need-returns
+returns c = search needs
 
 pub write-classes-spec : {M : Type 1} → statement M
 write-classes-spec =
     tie.close
     (tie.spec
-    Inv-loop
-    μ-loop
-    nodes-in-requires
-    loop-holds
-    classes-at-requires
-    mul-classes
-    slice-write-classes
-    mul-classes-2
-    add-classes
-    slice-write-classes-2
-    add-n
-    loop-less
-    loop-again
+    slice-aggregate-write-stays
+    write-stays-requires
+    slice-aggregate-put-classes
+    put-classes-requires
     same-length
     returns)

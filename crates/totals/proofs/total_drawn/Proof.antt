@@ -1,7 +1,7 @@
 use borrow.Author.Needs.{needs}
 use borrow.Author.Tests.{not-true, not-false, lt-ltb, le-ltb}
 use mathlib.Core.Bool.{Bool, _&&_}
-use mathlib.Core.Path.{ap, _∙_}
+use mathlib.Core.Path.{ap}
 use native.Mathlib.Omega.{arith}
 use Prim.Native.Nat.{ℕ}
 use denote.Ref.{now}
@@ -14,7 +14,6 @@ use Rattle.tables.specs.Lent.{Lent}
 use Rattle.tables.specs.Contract.{lentTable}
 use Rattle.totals.specs.declared.sums.Sums.{Sums}
 use Rattle.totals.specs.Inner.{figuresOf}
-use Rattle.totals.proofs.Summing.{low-is, high-is}
 use Rattle.totals.proofs.Answering.{length-answer, fit-rooms, costs-answer, crossed-answer, unmarked-answer, sums-answer}
 use Rattle.totals.proofs.total_drawn.Statement.{statement}
 use Rattle.totals.proofs.total_drawn.Tie as tie
@@ -81,7 +80,7 @@ sum-nodes-requires c κs =
     let s = c .before .before .before .before .before .before .before .before .before .before .before .before .before .before .before in
     let n = c .before .before .before .before .before .before .before .nodes-in in
     let rooms = fit-rooms (drawn s) (lent s) (figures s) (n .result) (n .ensures) (not-false (whole s (n .result)) (c .before .before .before .before .before .before .if1 .left)) in
-    (s .pre .0, (s .pre .1, (omega (arith, rooms .0, n .ensures), omega (arith, rooms .1, n .ensures))))
+    (s .pre .0, (s .pre .1, ((omega (arith, rooms .0, n .ensures), omega (arith, rooms .1, n .ensures)), c .before .before .before .before .if2 .left)))
 
 returns-5 : tie.Need-returns-5
 returns-5 c =
@@ -92,8 +91,8 @@ returns-5 c =
     let sums = c .sum-nodes .ensures in
     sums-answer (drawn s) (lent s) (figures s) (n .result) (n .ensures) (not-false (whole s (n .result)) (c .before .before .before .before .before .before .before .if1 .left)) (le-ltb _ _ (c .before .before .before .before .before .if2 .left)) (crossed .result) (crossed .ensures) (le-ltb _ _ (c .before .before .before .if3 .left))
     (unmarked .result) (unmarked .ensures) (le-ltb _ _ (c .before .if4 .left)) (c .sum-nodes .result .low) (c .sum-nodes .result .high)
-    (ap (λ (t : Sums). t .low) sums ∙ low-is (now (s .args .columns)) (now (s .args .plan)) (lent s) (figures s))
-    (ap (λ (t : Sums). t .high) sums ∙ high-is (now (s .args .columns)) (now (s .args .plan)) (lent s) (figures s))
+    (ap (λ (t : Sums). t .low) sums)
+    (ap (λ (t : Sums). t .high) sums)
 
 pub total-drawn-spec : {M : Type 1} → statement M
 total-drawn-spec =

@@ -39,7 +39,7 @@ fn buffers_of_2_to_the_32_are_long_enough() {
     assert_eq!(analyse(&chart, PASSES, lent), Ok(Settled { passes: 2, blocks: 1 }));
     assert_eq!(
         (&must[..4], may, marks, classes),
-        (&[2, 2, 0, 0][..], [2, 0, 0], [1; 3], [4, 4, 3, 4, 1, 4])
+        (&[2, 2, 0, 0][..], [2, 0, 0], [1; 3], [4, 4, 5, 4, 1, 4])
     );
     let table = Table {
         must: &must,

@@ -5,17 +5,19 @@ use charts::random_edges::{EDGES, NODE_EDGES};
 use compare::ask::{ANALYSE, CHECK, READ, TOTAL};
 use compare::crowds::{END, FULL, FULLEST, LAST_MAY, LAST_MUST, ONE_BIT};
 use compare::draw::{ALLOWANCE, ALLOWANCES, LENGTHS};
-use compare::features::{BLOCKS, CLASS, GEOMETRIES, GEOMETRY, LIKE, NODES, PASSES, REACHED};
+use compare::features::{BLOCKS, CLASS, CLASSES, GEOMETRIES, GEOMETRY, LIKE, NODES, PASSES, REACHED};
+use compare::kept::{self, MARKED, MEETING, MEMBERS, MOST_MEMBERS};
+use compare::paid::{KEPT, MET};
 use compare::raw::{ANSWER_LIST, HEADER_LIST, READ_ROOM};
 use compare::run::run;
 use compare::settings::{Settings, LEAST};
 use compare::sizes::{NO_SIZE, PAST_THE_END, SIZED_STEP, TOO_MANY};
-use compare::straddles::{self, BOTH, SETS, SIZE};
+use compare::straddles::{self, BOTH, PAIRS, SETS, SIZE};
 use compare::tables::{ALMOST, NOISE, PASSING};
 use compare::tally::Tally;
 use compare::trial::FAULTS;
 use compare::twins::TWINS;
-use compare::walks::{MET, SURE, WALK};
+use compare::walks::{SURE, WALK};
 use second::limits;
 use std::env;
 use std::io::{stdout, Write};
@@ -39,6 +41,7 @@ fn the_archive_and_the_second_program_agree_on_random_charts() {
     if charts.is_none() || tally.charts() >= LEAST {
         expect_answers(&tally);
         expect_charts(&tally);
+        expect_kept(&tally);
         expect_twins(&tally);
         expect_straddles(&tally);
         expect_sizes(&tally);
@@ -64,16 +67,33 @@ fn expect_answers(tally: &Tally) {
 fn expect_charts(tally: &Tally) {
     tally.expect_each(GEOMETRY, 0..=GEOMETRIES - 1, 5);
     for touch in CLASS {
-        tally.expect_each(touch, 0..=4, 10_000);
+        tally.expect_each(touch, 0..=CLASSES - 1, 5_000);
     }
     tally.expect_each(PASSES, 1..=12, 100);
     for like in LIKE {
         tally.expect(like, 500);
     }
-    tally.expect_each(MET[0], 1..=4, 50_000);
-    tally.expect_each(MET[1], 1..=4, 20_000);
+    tally.expect_each(MET[0], 1..=CLASSES - 1, 50_000);
+    tally.expect_each(MET[1], 1..=CLASSES - 1, 20_000);
     tally.expect_each(WALK, 0..=1, 50_000);
     tally.expect(SURE, 10_000);
+}
+
+/// Blocks that stay, and that almost do; walks on which they miss once, and then hit; tables that mark what no walk reaches.
+fn expect_kept(tally: &Tally) {
+    tally.expect_each(MEMBERS, 0..=MOST_MEMBERS, 20_000);
+    tally.expect_each(kept::PASSES, 1..=12, 10_000);
+    let [.., second] = kept::LIKE;
+    for like in kept::LIKE {
+        tally.expect(like, if like == second { 300 } else { 5_000 });
+    }
+    tally.expect(MEETING, 10_000);
+    for marked in MARKED {
+        tally.expect(marked, 1_000);
+    }
+    for kept in KEPT {
+        tally.expect(kept, 50_000);
+    }
 }
 
 /// Each is refused where the first broken record is, whether that is the one with two arrows to one node or another.
@@ -88,7 +108,7 @@ fn expect_twins(tally: &Tally) {
 fn expect_straddles(tally: &Tally) {
     tally.expect_each(SIZE, 0..=5, 10_000);
     tally.expect_each(SETS, 0..=2, 3_000);
-    tally.expect_each(BOTH, 0..=8, 1_000);
+    tally.expect_each(BOTH, 0..=PAIRS - 1, 1_000);
     for like in straddles::LIKE {
         tally.expect(like, 500);
     }

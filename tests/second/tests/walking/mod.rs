@@ -7,6 +7,7 @@ use second::cache::Cache;
 use second::chart::Chart;
 use second::class::Class;
 use second::header::Start;
+use second::kept::Kept;
 use second::lending::Lending;
 use second::limits::{PASSES, TOUCHES};
 use second::passes::settle;
@@ -90,8 +91,9 @@ pub fn looser(random: &mut Random, bytes: &[u8], chart: &Chart, tighter: &Lendin
         }
     }
     settle(chart, &mut table, PASSES).expect("ages change so often at most");
+    let kept = Kept::of(chart);
     for node in 0..nodes {
-        let both = Class::of(chart, lending.lent(), node).map(|class| class as u8);
+        let both = Class::of(chart, lending.lent(), &kept, node).map(|class| class as u8);
         lending.classes[TOUCHES * node..][..TOUCHES].copy_from_slice(&both);
     }
     assert_eq!(lending.check(bytes), Ok(true));

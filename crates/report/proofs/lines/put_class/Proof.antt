@@ -34,6 +34,12 @@ slice-aggregate-put-word-5 c = search needs
 put-word-requires-5 : tie.Need-put-word-requires-5
 put-word-requires-5 c κs = search needs
 
+slice-aggregate-put-word-6 : tie.Need-slice-aggregate-put-word-6
+slice-aggregate-put-word-6 c = search needs
+
+put-word-requires-6 : tie.Need-put-word-requires-6
+put-word-requires-6 c κs = search needs
+
 same-length : tie.Need-same-length
 same-length c = search needs
 
@@ -72,8 +78,16 @@ same-length-5 c = search needs
 returns-5 : tie.Need-returns-5
 returns-5 c =
     let m = c .before .before .before .before .before in
+    class-put (m .before .before .args .class) 5 (m .match .keys5) (c .before .before .put-word5 .ensures) (omega arith)
+
+same-length-6 : tie.Need-same-length-6
+same-length-6 c = search needs
+
+returns-6 : tie.Need-returns-6
+returns-6 c =
+    let m = c .before .before .before .before .before in
     let r = m .match .rest in
-    other-put (m .before .before .args .class) (r .0 .0 .0 .1) (r .0 .0 .1) (r .0 .1) (r .1) (c .before .before .put-word5 .ensures)
+    other-put (m .before .before .args .class) (r .0 .0 .0 .0 .1) (r .0 .0 .0 .1) (r .0 .0 .1) (r .0 .1) (r .1) (c .before .before .put-word6 .ensures)
 
 pub put-class-spec : {M : Type 1} → statement M
 put-class-spec =
@@ -89,6 +103,8 @@ put-class-spec =
     put-word-requires-4
     slice-aggregate-put-word-5
     put-word-requires-5
+    slice-aggregate-put-word-6
+    put-word-requires-6
     same-length
     returns
     same-length-2
@@ -98,4 +114,6 @@ put-class-spec =
     same-length-4
     returns-4
     same-length-5
-    returns-5)
+    returns-5
+    same-length-6
+    returns-6)

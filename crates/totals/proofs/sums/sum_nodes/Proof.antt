@@ -1,141 +1,81 @@
 use borrow.Author.Needs.{needs}
-use Prim.Native.Nat.{_+_, _*_, _≤_, _-_}
-use mathlib.Core.Path.{_≡_, refl, ap, subst, sym, _∙_}
+use Prim.Native.Nat.{ℕ, _+_, _*_, _≤_, _-_}
+use mathlib.Core.Path.{ap, _∙_}
+use native.Mathlib.Nat.{mul-le-mul}
 use native.Mathlib.Omega.{arith}
 use denote.Ref.{now}
-use lib.ListN.{getD}
-use Rattle.chart.specs.Geometry.{mostNodes, mostTouches}
-use Rattle.plan.specs.Listed.{nodesIn, planIn}
-use Rattle.tables.specs.Lent.{tableOf}
+use Rattle.chart.specs.Geometry.{mostBlocks}
+use Rattle.costs.specs.Costs.{Figures}
 use Rattle.tables.specs.Contract.{lentTable}
 use Rattle.totals.specs.declared.sums.Sums.{Sums}
-use Rattle.totals.specs.Inner.{costsOf, figuresOf, Small, touchAdded, sumsTo}
-use Rattle.totals.proofs.Summing.{small-more, small-turn, sums-turn}
+use Rattle.totals.specs.Inner.{figuresOf, sumsTo}
+use Rattle.totals.proofs.Summing.{low-is}
+use Rattle.totals.proofs.Charged.{charged-few, high-total-is}
 use Rattle.totals.proofs.sums.sum_nodes.Statement.{statement}
 use Rattle.totals.proofs.sums.sum_nodes.Tie as tie
 
-abbrev Inv-loop : tie.InvT-loop
-Inv-loop columns plan must may marks tariff floors ceilings sums₀ nodes n₀ sums n =
-    (n ≤ nodes)
-    × (Small (mostTouches * n) sums
-    × (sums ≡ sumsTo (planIn columns plan) (tableOf (planIn columns plan) (record { must = must; may = may; marks = marks })) (figuresOf tariff floors ceilings) n))
-
-abbrev μ-loop : tie.MeasureT-loop
-μ-loop columns plan must may marks tariff floors ceilings sums₀ nodes n₀ sums n = nodes - n
-
-nodes-in-requires : tie.Need-nodes-in-requires Inv-loop μ-loop
+nodes-in-requires : tie.Need-nodes-in-requires
 nodes-in-requires c κs = search needs
 
-loop-holds : tie.Need-loop-holds Inv-loop μ-loop
-loop-holds c = (search needs, (record { low-most = omega arith; high-most = omega arith }, refl))
+slice-aggregate-write-classes : tie.Need-slice-aggregate-write-classes
+slice-aggregate-write-classes c = search needs
 
-classes-at-requires : tie.Need-classes-at-requires Inv-loop μ-loop
-classes-at-requires c κs = (c .before .before .before .before .before .before .before .before .before .before .pre .0, (c .before .before .before .before .before .before .before .before .before .before .pre .1 .0, search needs))
+write-classes-requires : tie.Need-write-classes-requires
+write-classes-requires c κs =
+    let s = c .before .before .before .before .before .before .before .before .before in
+    (s .pre .0, (s .pre .1 .0, omega (arith, s .pre .0 .few-nodes)))
 
-mul-add-touch : tie.Need-mul-add-touch Inv-loop μ-loop
-mul-add-touch c = search needs
+slice-aggregate-sum-classes : tie.Need-slice-aggregate-sum-classes
+slice-aggregate-sum-classes c = search needs
 
-shared-slice-read-add-touch : tie.Need-shared-slice-read-add-touch Inv-loop μ-loop
-shared-slice-read-add-touch c = search needs
+sum-classes-requires : tie.Need-sum-classes-requires
+sum-classes-requires c κs = search needs
 
-mul-add-touch-2 : tie.Need-mul-add-touch-2 Inv-loop μ-loop
-mul-add-touch-2 c = search needs
+slice-aggregate-charged-blocks : tie.Need-slice-aggregate-charged-blocks
+slice-aggregate-charged-blocks c = search needs
 
-shared-slice-read-add-touch-2 : tie.Need-shared-slice-read-add-touch-2 Inv-loop μ-loop
-shared-slice-read-add-touch-2 c = search needs
+charged-blocks-requires : tie.Need-charged-blocks-requires
+charged-blocks-requires c κs = search needs
 
--- The costs have 16 bits.
-costs-small : (s : tie.Start Inv-loop μ-loop) → (costsOf (s .args .tariff) .hit ≤ 65535) × (costsOf (s .args .tariff) .miss ≤ 65535)
-costs-small s = (search needs, search needs)
+charge-requires : tie.Need-charge-requires
+charge-requires c κs =
+    let s = c .before .before .before .before .before .before .before .before .before .before .before .before .before .before .before in
+    (s .pre .1 .1 .1, charged-few (now (s .args .plan)) (c .before .before .before .before .before .write-classes .last .1 .1 .1 .1 .1 .0) (now (s .args .ceilings)) (c .charged-blocks .result) (c .charged-blocks .ensures) (s .pre .0 .few-blocks))
 
--- How large the sums are before a node's touches, and after the first.
-small-before : (c : tie.After-shared-slice-known9 Inv-loop μ-loop) → (mostTouches * c .before .before .before .before .loop .n + 1 ≤ mostTouches * mostNodes) × Small (mostTouches * c .before .before .before .before .loop .n) (c .before .before .before .before .loop .sums)
-small-before c =
-    let l = c .before .before .before .before .loop in
-    (omega (arith, c .before .before .before .loop-test .taken, c .before .before .before .before .before .nodes-in .ensures, c .before .before .before .before .before .before .before .before .before .before .before .before .before .pre .0 .few-nodes), l .inv .1 .0)
+add-t21 : tie.Need-add-t21
+add-t21 c =
+    let s = c .before .before .before .before .before .before .before .before .before .before .before .before .before .before .before .before .before in
+    let small = c .before .before .before .before .sum-classes .ensures .1 .high-most in
+    let most : s .args .tariff .miss ≤ 65535 = search needs in
+    let less : s .args .tariff .miss - s .args .tariff .hit ≤ 65535 = omega arith in
+    let blocks : c .before .before .charged-blocks .result ≤ mostBlocks = charged-few (now (s .args .plan)) (c .before .before .before .before .before .before .before .write-classes .last .1 .1 .1 .1 .1 .0) (now (s .args .ceilings)) (c .before .before .charged-blocks .result) (c .before .before .charged-blocks .ensures) (s .pre .0 .few-blocks) in
+    omega (arith, small, c .before .before .before .before .before .before .before .before .before .nodes-in .ensures, s .pre .0 .few-nodes, c .before .charge .ensures, mul-le-mul {n₂ = 65535} {m₂ = mostBlocks} less blocks)
 
-add-touch-requires : tie.Need-add-touch-requires Inv-loop μ-loop
-add-touch-requires c κs =
-    let few = small-before c .0 in
-    small-more (mostTouches * c .before .before .before .before .loop .n) (mostTouches * mostNodes) (c .before .before .before .before .loop .sums) (omega arith) (small-before c .1)
-
-small-once : (c : tie.After-add-touch Inv-loop μ-loop) → Small (mostTouches * c .before .before .before .before .before .loop .n + 1) (c .add-touch .result)
-small-once c =
-    let a = c .before .before .before .before .before .before .before .before .before .before .before .before .before .before .args in
-    let l = c .before .before .before .before .before .loop in
-    subst (Small (mostTouches * l .n + 1)) (sym (c .add-touch .ensures))
-    (small-turn (costsOf (a .tariff)) (costs-small (c .before .before .before .before .before .before .before .before .before .before .before .before .before .before) .0) (costs-small (c .before .before .before .before .before .before .before .before .before .before .before .before .before .before) .1) (c .before .before .before .classes-at .result .first) (getD (now (a .floors)) (l .n) 0) (getD (now (a .ceilings)) (l .n) 0)
-    (omega (arith, c .before .before .shared-slice-known8 .given (l .n))) (omega (arith, c .before .shared-slice-known9 .given (l .n))) (mostTouches * l .n) (l .sums) (small-before (c .before) .1))
-
-mul-add-touch-3 : tie.Need-mul-add-touch-3 Inv-loop μ-loop
-mul-add-touch-3 c = search needs
-
-shared-slice-read-add-touch-3 : tie.Need-shared-slice-read-add-touch-3 Inv-loop μ-loop
-shared-slice-read-add-touch-3 c = search needs
-
-mul-add-touch-4 : tie.Need-mul-add-touch-4 Inv-loop μ-loop
-mul-add-touch-4 c = search needs
-
-shared-slice-read-add-touch-4 : tie.Need-shared-slice-read-add-touch-4 Inv-loop μ-loop
-shared-slice-read-add-touch-4 c = search needs
-
-add-touch-requires-2 : tie.Need-add-touch-requires-2 Inv-loop μ-loop
-add-touch-requires-2 c κs =
-    let few = small-before (c .before .before .before) .0 in
-    small-more (mostTouches * c .before .before .before .before .before .before .before .loop .n + 1) (mostTouches * mostNodes) (c .before .before .add-touch .result) (omega arith) (small-once (c .before .before))
-
-add-n : tie.Need-add-n Inv-loop μ-loop
-add-n c = search needs
-
-loop-less : tie.Need-loop-less Inv-loop μ-loop
-loop-less c = search needs
-
-loop-again : tie.Need-loop-again Inv-loop μ-loop
-loop-again c =
-    let a = c .before .before .before .before .before .before .before .before .before .before .before .before .before .before .before .before .before .args in
-    let l = c .before .before .before .before .before .before .before .before .loop in
-    let both = c .before .before .before .before .before .before .classes-at in
-    let once = c .before .before .before .add-touch in
-    let small : Small (mostTouches * l .n + 1 + 1) (c .add-touch2 .result) = subst (Small (mostTouches * l .n + 1 + 1)) (sym (c .add-touch2 .ensures))
-    (small-turn (costsOf (a .tariff)) (costs-small (c .before .before .before .before .before .before .before .before .before .before .before .before .before .before .before .before .before) .0) (costs-small (c .before .before .before .before .before .before .before .before .before .before .before .before .before .before .before .before .before) .1) (both .result .second) (getD (now (a .floors)) (l .n) 0) (getD (now (a .ceilings)) (l .n) 0)
-    (omega (arith, c .before .before .shared-slice-known10 .given (l .n))) (omega (arith, c .before .shared-slice-known11 .given (l .n))) (mostTouches * l .n + 1) (once .result) (small-once (c .before .before .before))) in
-    let inside = c .before .before .before .before .before .before .before .loop-test .taken in (
-      search needs,
-      (
-        small-more (mostTouches * l .n + 1 + 1) (mostTouches * (l .n + 1)) (c .add-touch2 .result) (omega arith) small,
-        c .add-touch2 .ensures
-            ∙ ap (λ (sums : Sums). touchAdded (costsOf (a .tariff)) (both .result .second) (getD (now (a .floors)) (l .n) 0) (getD (now (a .ceilings)) (l .n) 0) sums) (once .ensures)
-            ∙ sums-turn (now (a .columns)) (now (a .plan)) (lentTable (a .must) (a .may) (a .marks)) (l .n) (omega (arith, inside, c .before .before .before .before .before .before .before .before .before .nodes-in .ensures)) (both .result) (both .ensures) (figuresOf (a .tariff) (now (a .floors)) (now (a .ceilings))) (l .sums) (l .inv .1 .1),
-      ),
-    )
-
-returns : tie.Need-returns Inv-loop μ-loop
+returns : tie.Need-returns
 returns c =
-    let a = c .before .before .before .before .before .before .before .before .before .before .args in
-    let l = c .before .loop in
-    let e : l .n ≡ nodesIn (now (a .plan)) = omega (arith, c .before .before .nodes-in .ensures) in
-    l .inv .1 .1 ∙ ap (sumsTo (planIn (now (a .columns)) (now (a .plan))) (tableOf (planIn (now (a .columns)) (now (a .plan))) (lentTable (a .must) (a .may) (a .marks))) (figuresOf (a .tariff) (now (a .floors)) (now (a .ceilings)))) e
+    let s = c .before .before .before .before .before .before .before .before .before .before .before .before .before .before .before .before .before in
+    let a = s .args in
+    let classes = c .before .before .before .before .before .before .before .write-classes in
+    let nodes = c .before .before .before .before .before .before .before .before .before .nodes-in .ensures in
+    let figures : Figures = figuresOf (a .tariff) (now (a .floors)) (now (a .ceilings)) in
+    let sums = c .before .before .before .before .sum-classes .ensures .0 in
+    let low = ap (λ (t : Sums). t .low) sums ∙ ap (λ (n : ℕ). sumsTo (classes .last .1 .1 .1 .1 .1 .0) figures n .low) nodes ∙ low-is (now (a .columns)) (now (a .plan)) (lentTable (a .must) (a .may) (a .marks)) (classes .last .1 .1 .1 .1 .1 .0) _ (classes .ensures) figures in
+    let high = ap (λ (t : Sums). t .high) sums ∙ ap (λ (n : ℕ). sumsTo (classes .last .1 .1 .1 .1 .1 .0) figures n .high) nodes in
+    let once = c .before .charge .ensures ∙ ap (λ (k : ℕ). (a .tariff .miss - a .tariff .hit) * k) (c .before .before .charged-blocks .ensures) in
+    let all = (λ i. high i + once i) ∙ high-total-is (now (a .columns)) (now (a .plan)) (lentTable (a .must) (a .may) (a .marks)) (classes .last .1 .1 .1 .1 .1 .0) _ (classes .ensures) figures in
+    λ i. record { low = low i; high = all i }
 
 pub sum-nodes-spec : {M : Type 1} → statement M
 sum-nodes-spec =
     tie.close
     (tie.spec
-    Inv-loop
-    μ-loop
     nodes-in-requires
-    loop-holds
-    classes-at-requires
-    mul-add-touch
-    shared-slice-read-add-touch
-    mul-add-touch-2
-    shared-slice-read-add-touch-2
-    add-touch-requires
-    mul-add-touch-3
-    shared-slice-read-add-touch-3
-    mul-add-touch-4
-    shared-slice-read-add-touch-4
-    add-touch-requires-2
-    add-n
-    loop-less
-    loop-again
+    slice-aggregate-write-classes
+    write-classes-requires
+    slice-aggregate-sum-classes
+    sum-classes-requires
+    slice-aggregate-charged-blocks
+    charged-blocks-requires
+    charge-requires
+    add-t21
     returns)

@@ -1,0 +1,12 @@
+pub mod Sums
+pub mod Bits
+pub mod States
+pub mod Tables
+pub mod Spans
+pub mod Weights
+pub mod Sending
+pub mod Visiting
+pub mod Sweeping
+pub mod Beginning
+pub mod Places
+pub mod Told

@@ -1,0 +1,117 @@
+-- The table that marks and words hold: its cells, a word joined into one of them, and that its states are such as the flow of one block has.
+use Prim.Native.Nat.{ℕ, _≤_, _<_}
+use mathlib.Core.Bool.{Bool, true, false}
+use mathlib.Core.List.{List}
+use mathlib.Core.Logic.{_⊎_, inl, inr}
+use mathlib.Core.Path.{_≡_, refl, sym, ap, subst, _∙_}
+use native.Mathlib.Decide.{ℕ-discrete}
+use native.Mathlib.Omega.{arith}
+use borrow.Author.Tests.{eq-eqb, ne-eqb, eqb-true, eqb-false}
+use lib.Bits.{bitOr}
+use lib.Dec.{eqb}
+use lib.ListN.{getD, set, length, length-set, List·getD-eq-default}
+use lib.Seq.{getD-set-same, getD-set-other, set-getD}
+use Rattle.lists.proofs.Listed.{length-listOf, getD-listOf, listOf-at}
+use Rattle.lists.proofs.Orders.{below-or}
+use Rattle.flow.specs.Flow.{Cell, blank, holds, cellAt}
+use Rattle.flow.specs.Pass.{met, metAt}
+use Rattle.flow.specs.Passing.{Marked}
+use Rattle.flow.specs.Laws.{CellReal}
+use Rattle.ages.specs.Plan.{Plan, Sound}
+use Rattle.kept.specs.Since.{Since}
+use Rattle.kept.specs.Kept.{keptFlow}
+use Rattle.kept.proofs.Lawful.{keptLaws}
+use Rattle.keeping.specs.Words.{sinceIn}
+use Rattle.keeping.specs.Flood.{cellIn, tableIn}
+use Rattle.keeping.proofs.States.{word-fits, word-meets}
+
+module _ (plan : Plan) (block : ℕ) (marks words : List ℕ) where
+  pub table-long : length (tableIn plan block marks words) ≡ plan .nodes
+  table-long = length-listOf (plan .nodes) (cellIn plan block marks words)
+
+  pub table-cell : (n : ℕ) → n < plan .nodes → cellAt (tableIn plan block marks words) n ≡ cellIn plan block marks words n
+  table-cell n h = getD-listOf (plan .nodes) (cellIn plan block marks words) blank n h
+
+  pub cell-bare : (n : ℕ) → n < plan .nodes → getD marks n 0 ≡ 0 → cellAt (tableIn plan block marks words) n ≡ blank
+  cell-bare n h e = table-cell n h ∙ (rw (eq-eqb (getD marks n 0) 0 e))
+
+  pub cell-held : (n : ℕ) → n < plan .nodes → (getD marks n 0 ≡ 0 → ⊥) → cellAt (tableIn plan block marks words) n ≡ holds (sinceIn (plan .blocks) block (getD words n 0))
+  cell-held n h e = table-cell n h ∙ (rw (ne-eqb (getD marks n 0) 0 e))
+
+  pub cell-past : (n : ℕ) → plan .nodes ≤ n → cellAt (tableIn plan block marks words) n ≡ blank
+  cell-past n h = List·getD-eq-default (tableIn plan block marks words) blank (omega (arith, table-long))
+
+  -- What is so of nothing and of the state of each marked node is so of each cell.
+  pub cells-all : (Q : ℕ → Cell Since → Type 0) → ((n : ℕ) → Q n blank) → ((n : ℕ) → n < plan .nodes → (getD marks n 0 ≡ 0 → ⊥) → Q n (holds (sinceIn (plan .blocks) block (getD words n 0))))
+      → (n : ℕ) → Q n (cellAt (tableIn plan block marks words) n)
+  cells-all Q none some n = go (below-or n (plan .nodes))
+    where
+      inner : n < plan .nodes → (t : Bool) → eqb (getD marks n 0) 0 ≡ t → Q n (cellAt (tableIn plan block marks words) n)
+      inner h true e = subst (Q n) (sym (cell-bare n h (eqb-true (getD marks n 0) 0 e))) (none n)
+      inner h false e = subst (Q n) (sym (cell-held n h (eqb-false (getD marks n 0) 0 e))) (some n h (eqb-false (getD marks n 0) 0 e))
+
+      go : (n < plan .nodes) ⊎ (plan .nodes ≤ n) → Q n (cellAt (tableIn plan block marks words) n)
+      go (inl h) = inner h (eqb (getD marks n 0) 0) refl
+      go (inr h) = subst (Q n) (sym (cell-past n h)) (none n)
+
+  -- Its states are such as the flow has.
+  pub table-real : (sound : Sound plan) → block < plan .blocks → (n : ℕ) → CellReal (keptFlow plan block) (keptLaws plan sound block) n (cellAt (tableIn plan block marks words) n)
+  unfolding keptLaws
+  table-real sound inside =
+      cells-all (λ n c. CellReal (keptFlow plan block) (keptLaws plan sound block) n c) (λ n. tt) (λ n h e. word-fits (plan .blocks) block (getD words n 0) inside)
+
+  -- A node with a mark is marked, and a marked one has a mark.
+  pub mark-marked : (n : ℕ) → n < plan .nodes → (getD marks n 0 ≡ 0 → ⊥) → Marked (cellAt (tableIn plan block marks words) n)
+  mark-marked n h e = rw (cell-held n h e) tt
+
+  pub marked-mark : (n : ℕ) → n < plan .nodes → Marked (cellAt (tableIn plan block marks words) n) → getD marks n 0 ≡ 0 → ⊥
+  marked-mark n h m e = subst Marked (cell-bare n h e) m
+
+  -- ---- a word stored
+
+  module _ (t : ℕ) (inside : t < plan .nodes) where
+    pub table-stored : plan .nodes ≤ length marks → plan .nodes ≤ length words → (word : ℕ)
+        → tableIn plan block (set marks t 1) (set words t word) ≡ set (tableIn plan block marks words) t (holds (sinceIn (plan .blocks) block word))
+    table-stored room wide word =
+        listOf-at (plan .nodes) (cellIn plan block (set marks t 1) (set words t word)) (set (tableIn plan block marks words) t (holds (sinceIn (plan .blocks) block word))) blank
+        (length-set (tableIn plan block marks words) t (holds (sinceIn (plan .blocks) block word)) ∙ table-long) (λ n h. go n h (ℕ-discrete n t))
+      where
+        go : (n : ℕ) → n < plan .nodes → Dec (n ≡ t) → cellIn plan block (set marks t 1) (set words t word) n ≡ cellAt (set (tableIn plan block marks words) t (holds (sinceIn (plan .blocks) block word))) n
+        go n h (yes e) =
+            let there : t < length (tableIn plan block marks words) = omega (arith, table-long) in
+            rw (e, getD-set-same marks t 1 0 (omega arith), getD-set-same words t word 0 (omega arith), getD-set-same (tableIn plan block marks words) t (holds (sinceIn (plan .blocks) block word)) blank there)
+        go n h (no e) =
+            rw (getD-set-other marks t n 1 0 e, getD-set-other words t n word 0 e, getD-set-other (tableIn plan block marks words) t n (holds (sinceIn (plan .blocks) block word)) blank e)
+            (sym (table-cell n h))
+
+    -- What a cell holds when a word has come to it.
+    pub cell-met : (getD marks t 0 ≡ 0 → getD words t 0 ≡ 0) → (out : ℕ)
+        → met (keptFlow plan block) (cellAt (tableIn plan block marks words) t) (sinceIn (plan .blocks) block out) ≡ holds (sinceIn (plan .blocks) block (bitOr (getD words t 0) out))
+    unfolding met
+    cell-met bare out = go (eqb (getD marks t 0) 0) refl
+      where
+        go : (b : Bool) → eqb (getD marks t 0) 0 ≡ b
+            → met (keptFlow plan block) (cellAt (tableIn plan block marks words) t) (sinceIn (plan .blocks) block out) ≡ holds (sinceIn (plan .blocks) block (bitOr (getD words t 0) out))
+        go true e =
+            let none = eqb-true (getD marks t 0) 0 e in
+            rw (cell-bare t inside none, bare none)
+        go false e =
+            rw (cell-held t inside (eqb-false (getD marks t 0) 0 e))
+            (ap holds (sym (word-meets (plan .blocks) block (getD words t 0) out)))
+
+    -- A word that comes to a node, stored: the table met by its state.
+    pub table-met : plan .nodes ≤ length marks → plan .nodes ≤ length words → (getD marks t 0 ≡ 0 → getD words t 0 ≡ 0) → (out : ℕ)
+        → tableIn plan block (set marks t 1) (set words t (bitOr (getD words t 0) out)) ≡ metAt (keptFlow plan block) (tableIn plan block marks words) t (sinceIn (plan .blocks) block out)
+    unfolding metAt
+    table-met room wide bare out =
+        table-stored room wide (bitOr (getD words t 0) out)
+        ∙ ap (set (tableIn plan block marks words) t) (sym (cell-met bare out))
+
+    -- And one that brings nothing new leaves the table.
+    pub table-same : (getD marks t 0 ≡ 0 → ⊥) → (out : ℕ) → bitOr (getD words t 0) out ≡ getD words t 0
+        → metAt (keptFlow plan block) (tableIn plan block marks words) t (sinceIn (plan .blocks) block out) ≡ tableIn plan block marks words
+    unfolding metAt
+    table-same marked out e =
+        ap (set (tableIn plan block marks words) t)
+        (cell-met (λ none. absurd (marked none)) out ∙ ap (λ (w : ℕ). holds (sinceIn (plan .blocks) block w)) e ∙ sym (cell-held t inside marked))
+        ∙ set-getD (tableIn plan block marks words) t blank

@@ -1,0 +1,77 @@
+-- The table that marks and words hold, what is so while nodes are taken that are due, and what is so when none is.
+-- Nothing here is a rule of the tool: laws and contracts of inner functions speak of it.
+use Prim.Native.Nat.{ℕ, _+_, _-_, _^_, _≤_, _<_}
+use mathlib.Core.Bool.{Bool, true, cond, not}
+use mathlib.Core.List.{List}
+use mathlib.Core.Logic.{_⊎_}
+use mathlib.Core.Path.{_≡_}
+use denote.Ref.{now}
+use lib.Dec.{eqb}
+use lib.ListN.{getD}
+use Rattle.lists.specs.Lists.{listOf, sumOf}
+use Rattle.lists.specs.Slices.{Passed, Slice}
+use Rattle.flow.specs.Flow.{Cell, blank, holds, cellAt}
+use Rattle.flow.specs.Passing.{CellBelow, Passing, Under}
+use Rattle.flow.specs.Working.{Working}
+use Rattle.ages.specs.Plan.{Plan}
+use Rattle.plan.specs.Listed.{nodesIn, planIn}
+use Rattle.kept.specs.Since.{Since}
+use Rattle.kept.specs.Kept.{keptFlow, keptTable}
+use Rattle.keeping.specs.declared.span.Span.{Span}
+use Rattle.keeping.specs.Words.{sinceIn}
+use Rattle.keeping.specs.Work.{Work}
+
+-- What stands at a node: nothing where its mark is 0, and otherwise the state that its word holds.
+abbrev pub cellIn : Plan → ℕ → List ℕ → List ℕ → ℕ → Cell Since
+cellIn plan block marks words n = cond (eqb (getD marks n 0) 0) blank (holds (sinceIn (plan .blocks) block (getD words n 0)))
+
+abbrev pub tableIn : Plan → ℕ → List ℕ → List ℕ → List (Cell Since)
+tableIn plan block marks words = listOf (plan .nodes) (cellIn plan block marks words)
+
+abbrev pub dueIn : List ℕ → ℕ → Bool
+dueIn due n = not (eqb (getD due n 0) 0)
+
+-- Words that fit: none has a bit above the columns, and an unmarked node has none.
+pub record WordsFit (plan : Plan) (marks words : List ℕ) : Type 0 where
+  pub small : (n : ℕ) → n < plan .nodes → getD words n 0 < 2 ^ plan .blocks
+  pub bare : (n : ℕ) → n < plan .nodes → getD marks n 0 ≡ 0 → getD words n 0 ≡ 0
+
+-- Where node n is at hand, m is within a span.
+abbrev pub Within : ℕ → Span → ℕ → Type 0
+Within n span m = ((n ≤ m) × (m < span .to)) ⊎ ((span .low ≤ m) × (m < span .high))
+
+-- Before node n is taken: the table is on its way, and all nodes that are due are within the span.
+pub record Stands (plan : Plan) (block n : ℕ) (work : Work) : Type 0 where
+  pub fits : WordsFit plan (work .marks) (work .words)
+  pub begun : CellBelow (keptFlow plan block) (holds (keptFlow plan block .start)) (cellAt (tableIn plan block (work .marks) (work .words)) (plan .entry))
+  pub under : (P : List (Cell Since)) → Passing (keptFlow plan block) P → Under (keptFlow plan block) (tableIn plan block (work .marks) (work .words)) P
+  pub working : Working (keptFlow plan block) (tableIn plan block (work .marks) (work .words)) (dueIn (work .due))
+  pub within : (m : ℕ) → m < plan .nodes → dueIn (work .due) m ≡ true → Within n (work .span) m
+  pub to-in : work .span .to ≤ plan .nodes
+  pub high-in : work .span .high ≤ plan .nodes
+
+-- What is left to do, as a number: for each node the bits that may still come, its mark, and that it is due.
+abbrev pub weightAt : Work → ℕ → ℕ
+weightAt work n =
+    (2 ^ 64 - getD (work .words) n 0) + cond (eqb (getD (work .marks) n 0) 0) 1 0 + cond (eqb (getD (work .due) n 0) 0) 0 1
+
+abbrev pub weightOf : ℕ → Work → ℕ
+weightOf nodes work = sumOf nodes (weightAt work)
+
+-- After a sweep: none is due ahead, and less is left to do, or no node is due.
+pub record Swept (columns plan : List ℕ) (block : ℕ) (before after : Work) : Type 0 where
+  pub stands : Stands (planIn columns plan) block (after .span .to) after
+  pub lighter : weightOf (nodesIn plan) after ≤ weightOf (nodesIn plan) before
+  pub progress : (weightOf (nodesIn plan) after < weightOf (nodesIn plan) before) ⊎ (after .span .high ≤ after .span .low)
+
+-- When no node is due: the table is the tightest.
+pub record Flooded (plan : Plan) (block : ℕ) (marks words : List ℕ) : Type 0 where
+  pub fits : WordsFit plan marks words
+  pub table : tableIn plan block marks words ≡ keptTable plan block
+
+-- The same of slices, as a `requires` and an `ensures` name them.
+abbrev pub StandsIn : Passed → Passed → ℕ → ℕ → Work → Type 0
+StandsIn columns plan block n work = Stands (planIn (now columns) (now plan)) block n work
+
+abbrev pub FloodedIn : Plan → ℕ → Slice → Slice → Type 0
+FloodedIn plan block marks words = Flooded plan block (now (marks .exit)) (now (words .exit))

@@ -1,0 +1,12 @@
+// Works out which touches would be kept (rules 8.1 and 16.1 to 16.8), one block after another: what is held of a block at a node is one word, and
+// only nodes whose word has changed are taken again. Callers keep that the lists hold a plan. Nothing is refused here.
+mod columns;
+mod flooding;
+mod putting;
+mod span;
+mod starting;
+mod stays;
+mod telling;
+mod words;
+
+pub use stays::write_stays;

@@ -1,0 +1,11 @@
+pub mod Comparing
+pub mod Touching
+pub mod Lawful
+pub mod Settled
+pub mod Adding
+pub mod Younger
+pub mod Staying
+pub mod Turned
+pub mod Covered
+pub mod Walks
+pub mod Walked

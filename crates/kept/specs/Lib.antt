@@ -1,0 +1,4 @@
+pub mod Since
+pub mod Kept
+pub mod Younger
+pub mod Walked

@@ -12,10 +12,10 @@
 -- A *table* marks the nodes that a walk can come to, and perhaps more; for each of them and each block it has two ages: when a walk comes
 -- there, the block is no older than the one and no younger than the other. From them each touch of a node is called a hit or a miss, the second by
 -- what the first leaves of them. Where they leave it open, it goes by the other blocks of its set that walks have touched since their last touch of its
--- block: if these are fewer than the set has ways it is called *kept*, and else unsure. The *analysis* makes such a table; the *checker* tries one that anybody made. For each node
--- the caller says how often a walk visits it, no less than a *floor* and no more than a *ceiling*; what a walk then costs lies between the two
--- *totals*. A caller lends *buffers*, as long as it likes, for a function to read or to fill. Where a function cannot answer it gives a *refusal*,
--- a number by rules 11.0 to 11.17, with the node at fault.
+-- block: if these are fewer than the set has ways it is called *kept*, and else unsure. The *analysis* makes such a table; the *checker* tries one that
+-- anybody made. For each node the caller says how often a walk visits it, no less than a *floor* and no more than a *ceiling*; what a walk then costs
+-- lies between the two *totals*. A caller lends *buffers*, as long as it likes, for a function to read or to fill. Where a function cannot answer it
+-- gives a *refusal*, a number by rules 11.0 to 11.17, with the node at fault.
 --
 -- 1. Ask it anything. Whatever bytes or numbers come, and however short a lent buffer is, the reader of charts, the analysis, the checker, the
 --    totals, the *writer*, which makes a chart's bytes from its fields, and the functions that tell a chart's fields and list its blocks give an

@@ -1,18 +1,16 @@
 -- The table that marks and words hold: its cells, a word joined into one of them, and that its states are such as the flow of one block has.
 use Prim.Native.Nat.{ℕ, _≤_, _<_}
-use mathlib.Core.Bool.{Bool, true, false}
+use mathlib.Core.Bool.{Bool, true, false, cond}
 use mathlib.Core.List.{List}
-use mathlib.Core.Logic.{_⊎_, inl, inr}
 use mathlib.Core.Path.{_≡_, refl, sym, ap, subst, _∙_}
 use native.Mathlib.Decide.{ℕ-discrete}
 use native.Mathlib.Omega.{arith}
 use borrow.Author.Tests.{eq-eqb, ne-eqb, eqb-true, eqb-false}
 use lib.Bits.{bitOr}
 use lib.Dec.{eqb}
-use lib.ListN.{getD, set, length, length-set, List·getD-eq-default}
+use lib.ListN.{getD, set, length, length-set}
 use lib.Seq.{getD-set-same, getD-set-other, set-getD}
-use Rattle.lists.proofs.Listed.{length-listOf, getD-listOf, listOf-at}
-use Rattle.lists.proofs.Orders.{below-or}
+use Rattle.lists.proofs.Listed.{length-listOf, listOf-at}
 use Rattle.flow.specs.Flow.{Cell, blank, holds, cellAt}
 use Rattle.flow.specs.Pass.{met, metAt}
 use Rattle.flow.specs.Passing.{Marked}
@@ -22,37 +20,35 @@ use Rattle.kept.specs.Since.{Since}
 use Rattle.kept.specs.Kept.{keptFlow}
 use Rattle.kept.proofs.Lawful.{keptLaws}
 use Rattle.keeping.specs.Words.{sinceIn}
-use Rattle.keeping.specs.Flood.{cellIn, tableIn}
+use Rattle.layout.specs.Rows.{cellIn}
+use Rattle.layout.proofs.Fitting.{table-at, table-past, table-all}
+use Rattle.keeping.specs.Flood.{wordState, tableIn}
 use Rattle.keeping.proofs.States.{word-fits, word-meets}
 
 module _ (plan : Plan) (block : ℕ) (marks words : List ℕ) where
-  pub table-long : length (tableIn plan block marks words) ≡ plan .nodes
-  table-long = length-listOf (plan .nodes) (cellIn plan block marks words)
+  abbrev state : ℕ → Since
+  state = wordState plan block words
 
-  pub table-cell : (n : ℕ) → n < plan .nodes → cellAt (tableIn plan block marks words) n ≡ cellIn plan block marks words n
-  table-cell n h = getD-listOf (plan .nodes) (cellIn plan block marks words) blank n h
+  pub table-long : length (tableIn plan block marks words) ≡ plan .nodes
+  table-long = length-listOf (plan .nodes) (cellIn state marks)
 
   pub cell-bare : (n : ℕ) → n < plan .nodes → getD marks n 0 ≡ 0 → cellAt (tableIn plan block marks words) n ≡ blank
-  cell-bare n h e = table-cell n h ∙ (rw (eq-eqb (getD marks n 0) 0 e))
+  cell-bare n h e = table-at (plan .nodes) state marks n h ∙ (rw (eq-eqb (getD marks n 0) 0 e))
 
   pub cell-held : (n : ℕ) → n < plan .nodes → (getD marks n 0 ≡ 0 → ⊥) → cellAt (tableIn plan block marks words) n ≡ holds (sinceIn (plan .blocks) block (getD words n 0))
-  cell-held n h e = table-cell n h ∙ (rw (ne-eqb (getD marks n 0) 0 e))
+  cell-held n h e = table-at (plan .nodes) state marks n h ∙ (rw (ne-eqb (getD marks n 0) 0 e))
 
   pub cell-past : (n : ℕ) → plan .nodes ≤ n → cellAt (tableIn plan block marks words) n ≡ blank
-  cell-past n h = List·getD-eq-default (tableIn plan block marks words) blank (omega (arith, table-long))
+  cell-past = table-past (plan .nodes) state marks
 
   -- What is so of nothing and of the state of each marked node is so of each cell.
   pub cells-all : (Q : ℕ → Cell Since → Type 0) → ((n : ℕ) → Q n blank) → ((n : ℕ) → n < plan .nodes → (getD marks n 0 ≡ 0 → ⊥) → Q n (holds (sinceIn (plan .blocks) block (getD words n 0))))
       → (n : ℕ) → Q n (cellAt (tableIn plan block marks words) n)
-  cells-all Q none some n = go (below-or n (plan .nodes))
+  cells-all Q none some = table-all (plan .nodes) state marks Q (λ n h. go n h (eqb (getD marks n 0) 0) refl) none
     where
-      inner : n < plan .nodes → (t : Bool) → eqb (getD marks n 0) 0 ≡ t → Q n (cellAt (tableIn plan block marks words) n)
-      inner h true e = subst (Q n) (sym (cell-bare n h (eqb-true (getD marks n 0) 0 e))) (none n)
-      inner h false e = subst (Q n) (sym (cell-held n h (eqb-false (getD marks n 0) 0 e))) (some n h (eqb-false (getD marks n 0) 0 e))
-
-      go : (n < plan .nodes) ⊎ (plan .nodes ≤ n) → Q n (cellAt (tableIn plan block marks words) n)
-      go (inl h) = inner h (eqb (getD marks n 0) 0) refl
-      go (inr h) = subst (Q n) (sym (cell-past n h)) (none n)
+      go : (n : ℕ) → n < plan .nodes → (t : Bool) → eqb (getD marks n 0) 0 ≡ t → Q n (cond t blank (holds (state n)))
+      go n h true e = none n
+      go n h false e = some n h (eqb-false (getD marks n 0) 0 e)
 
   -- Its states are such as the flow has.
   pub table-real : (sound : Sound plan) → block < plan .blocks → (n : ℕ) → CellReal (keptFlow plan block) (keptLaws plan sound block) n (cellAt (tableIn plan block marks words) n)
@@ -73,16 +69,16 @@ module _ (plan : Plan) (block : ℕ) (marks words : List ℕ) where
     pub table-stored : plan .nodes ≤ length marks → plan .nodes ≤ length words → (word : ℕ)
         → tableIn plan block (set marks t 1) (set words t word) ≡ set (tableIn plan block marks words) t (holds (sinceIn (plan .blocks) block word))
     table-stored room wide word =
-        listOf-at (plan .nodes) (cellIn plan block (set marks t 1) (set words t word)) (set (tableIn plan block marks words) t (holds (sinceIn (plan .blocks) block word))) blank
+        listOf-at (plan .nodes) (cellIn (wordState plan block (set words t word)) (set marks t 1)) (set (tableIn plan block marks words) t (holds (sinceIn (plan .blocks) block word))) blank
         (length-set (tableIn plan block marks words) t (holds (sinceIn (plan .blocks) block word)) ∙ table-long) (λ n h. go n h (ℕ-discrete n t))
       where
-        go : (n : ℕ) → n < plan .nodes → Dec (n ≡ t) → cellIn plan block (set marks t 1) (set words t word) n ≡ cellAt (set (tableIn plan block marks words) t (holds (sinceIn (plan .blocks) block word))) n
+        go : (n : ℕ) → n < plan .nodes → Dec (n ≡ t) → cellIn (wordState plan block (set words t word)) (set marks t 1) n ≡ cellAt (set (tableIn plan block marks words) t (holds (sinceIn (plan .blocks) block word))) n
         go n h (yes e) =
             let there : t < length (tableIn plan block marks words) = omega (arith, table-long) in
             rw (e, getD-set-same marks t 1 0 (omega arith), getD-set-same words t word 0 (omega arith), getD-set-same (tableIn plan block marks words) t (holds (sinceIn (plan .blocks) block word)) blank there)
         go n h (no e) =
             rw (getD-set-other marks t n 1 0 e, getD-set-other words t n word 0 e, getD-set-other (tableIn plan block marks words) t n (holds (sinceIn (plan .blocks) block word)) blank e)
-            (sym (table-cell n h))
+            (sym (table-at (plan .nodes) state marks n h))
 
     -- What a cell holds when a word has come to it.
     pub cell-met : (getD marks t 0 ≡ 0 → getD words t 0 ≡ 0) → (out : ℕ)

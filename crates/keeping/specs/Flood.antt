@@ -8,11 +8,12 @@ use mathlib.Core.Path.{_≡_}
 use denote.Ref.{now}
 use lib.Dec.{eqb}
 use lib.ListN.{getD}
-use Rattle.lists.specs.Lists.{listOf, sumOf}
+use Rattle.lists.specs.Lists.{sumOf}
 use Rattle.lists.specs.Slices.{Passed, Slice}
-use Rattle.flow.specs.Flow.{Cell, blank, holds, cellAt}
+use Rattle.flow.specs.Flow.{Cell, holds, cellAt}
 use Rattle.flow.specs.Passing.{CellBelow, Passing, Under}
 use Rattle.flow.specs.Working.{Working}
+use Rattle.layout.specs.Rows.{tableBy}
 use Rattle.ages.specs.Plan.{Plan}
 use Rattle.plan.specs.Listed.{nodesIn, planIn}
 use Rattle.kept.specs.Since.{Since}
@@ -21,12 +22,12 @@ use Rattle.keeping.specs.declared.span.Span.{Span}
 use Rattle.keeping.specs.Words.{sinceIn}
 use Rattle.keeping.specs.Work.{Work}
 
--- What stands at a node: nothing where its mark is 0, and otherwise the state that its word holds.
-abbrev pub cellIn : Plan → ℕ → List ℕ → List ℕ → ℕ → Cell Since
-cellIn plan block marks words n = cond (eqb (getD marks n 0) 0) blank (holds (sinceIn (plan .blocks) block (getD words n 0)))
+-- The state that the word of a node holds, and the table of these: nothing where a mark is 0, as in every table that is read off lists (`layout`).
+abbrev pub wordState : Plan → ℕ → List ℕ → ℕ → Since
+wordState plan block words n = sinceIn (plan .blocks) block (getD words n 0)
 
 abbrev pub tableIn : Plan → ℕ → List ℕ → List ℕ → List (Cell Since)
-tableIn plan block marks words = listOf (plan .nodes) (cellIn plan block marks words)
+tableIn plan block marks words = tableBy (plan .nodes) (wordState plan block words) marks
 
 abbrev pub dueIn : List ℕ → ℕ → Bool
 dueIn due n = not (eqb (getD due n 0) 0)

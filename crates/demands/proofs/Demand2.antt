@@ -25,6 +25,7 @@ use Rattle.kept.specs.Since.{Since}
 use Rattle.kept.specs.Kept.{afterTouchOf, keptFlow, keptPasses, keptTable}
 use Rattle.kept.proofs.Settled.{kept-settles, kept-count, kept-tightest}
 use Rattle.kept.proofs.Walked.{kept-walked}
+use Rattle.kept.proofs.Checked.{test-passing, passing-test}
 use Rattle.ages.specs.Plan.{ColumnTouch}
 use Rattle.lists.proofs.Listed.{getD-listOf}
 use Rattle.flow.proofs.Ending.{settle-after}
@@ -213,6 +214,7 @@ kept-settled bytes chart column read inside =
       earlier = settle-after (keptFlow plan column) (keptPasses plan) (done .0) (keptTable plan column) (done .1) .earlier;
       count = λ allowance made table e. omega (arith, kept-count plan sound few column inside allowance made table e);
       table-passes = kept-tightest plan sound few column inside .passing;
+      table-yes = passing-test plan column (keptTable plan column) (kept-tightest plan sound few column inside .passing);
       tightest = kept-tightest plan sound few column inside;
       walked = kept-walked plan sound few column inside;
     }
@@ -237,5 +239,7 @@ demand2 =
       agree = settled-agree;
       planned = chart-planned;
       kept-touch-by-touch = kept-touches;
+      kept-yes = λ chart. test-passing (planOf chart);
+      yes-kept = λ chart. passing-test (planOf chart);
       kept-settled = kept-settled;
     }

@@ -4,8 +4,9 @@
 -- (The ages are those of that analysis: `published`, of the definitions in cache/specs/Ages.antt, here over columns whose keys stand for their
 -- blocks' sets, as `keys-sets` and `sets-keys` say, in the shape that the bytes say, `shape-said`. That the analysis is refused only as rule 12.3
 -- lists is `Demand1.readings` and `Demand1.analysis`.)
--- The sets of blocks that stay are worked out one block at a time: each of these tables settles, passes its own equations, is the tightest of those that
--- do, and has what walks do and nothing else (`kept-settled`).
+-- The sets of blocks that stay are worked out and checked one block at a time: a test says yes exactly of the tables of one block that pass their own
+-- equations (`kept-yes`, `yes-kept`); each block's table settles, passes, is the tightest of those that do, and has what walks do and nothing else
+-- (`kept-settled`).
 -- It speaks of rules 1.2, 2.4, 3.2, 3.3, 4.6, 4.7, 6.2 to 6.6, 7.3, 7.7 to 7.9, 8.1, 9.5, 9.6, 12.2, 12.4, 12.5, 13.1 to 13.3, 16.1 and 16.3 to 16.8. Proved as
 -- `demand2` in proofs/Demand2.antt.
 use Prim.Native.Nat.{ℕ, suc, _+_, _*_, _%_, _^_, _≤_, _<_}
@@ -25,6 +26,7 @@ use Rattle.ages.specs.Plan.{columnsOf, touchesIn, arrowsIn}
 use Rattle.ages.specs.Charted.{blockAt, setAt, keyAt, columnTouch, planOf, agesFlow, touchedBy, mostPasses}
 use Rattle.kept.specs.Since.{Since}
 use Rattle.kept.specs.Kept.{afterTouchOf, keptFlow, keptTable}
+use Rattle.kept.specs.Checked.{blockPassing}
 use Rattle.kept.specs.Walked.{Walked}
 use Rattle.cache.specs.Ages.{Ages}
 use Rattle.cache.specs.Plain.{Cache, Formed, emptyCache}
@@ -107,6 +109,7 @@ pub record KeptSettles (chart : Chart) (column : ℕ) : Type 0 where
   pub earlier : (k : ℕ) → suc k < passes → pass (keptFlow (planOf chart) column) (afterPasses (keptFlow (planOf chart) column) k) .changed ≡ true
   -- rule 16.6: it passes its own equations, and is the tightest of those that do
   pub table-passes : Passing (keptFlow (planOf chart) column) (keptTable (planOf chart) column)
+  pub table-yes : blockPassing (planOf chart) column (keptTable (planOf chart) column) ≡ true
   pub tightest : Tightest (keptFlow (planOf chart) column) (keptTable (planOf chart) column)
   -- rules 16.1 and 16.8: at each node it has what walks to that node do, and nothing else
   pub walked : (n : ℕ) → Walked (planOf chart) column n
@@ -161,6 +164,13 @@ pub record Demand2 : Type 0 where
       → (since : Since)
       → keptFlow (planOf chart) column .step n since
       ≡ inTurn (λ touch. afterTouchOf (planOf chart) column (columnTouch chart touch)) (touches chart n) since
+  -- rule 16.6: the test of one block's table says yes exactly if it passes
+  pub kept-yes : (chart : Chart) (column : ℕ) (table : Table (keptFlow (planOf chart) column))
+      → blockPassing (planOf chart) column table ≡ true
+      → Passing (keptFlow (planOf chart) column) table
+  pub yes-kept : (chart : Chart) (column : ℕ) (table : Table (keptFlow (planOf chart) column))
+      → Passing (keptFlow (planOf chart) column) table
+      → blockPassing (planOf chart) column table ≡ true
   -- rules 16.6 and 16.7: the table of each block
   pub kept-settled : (bytes : List ℕ) (chart : Chart) (column : ℕ)
       → readChart bytes ≡ accepted chart

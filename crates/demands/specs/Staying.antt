@@ -1,7 +1,8 @@
 -- Soundings of blocks that stay: two nodes that touch one block, a kept and an unsure touch of one block, blocks that walks bring together, one node, nodes
--- that no walk reaches, and a second touch that sees the first; and what they cost. Nothing here is a rule of the tool: it is what rules 8.1, 8.2, 10.2
--- to 10.4, 16.1, 16.3, 16.5, 16.7 and 16.8 come to.
+-- that no walk reaches, and a second touch that sees the first; which tables of one block pass; and what they cost. Nothing here is a rule of the tool: it
+-- is what rules 8.1, 8.2, 10.2 to 10.4, 16.1, 16.3 and 16.5 to 16.8 come to.
 use Prim.Native.Nat.{ℕ, _*_}
+use mathlib.Core.Bool.{true, false, cond}
 use mathlib.Core.List.{List, [], _∷_, _++_}
 use lib.ListN.{replicate}
 use Rattle.lists.specs.Soundings.{Sounding, _reads_}
@@ -10,9 +11,12 @@ use Rattle.cache.specs.Plain.{emptyCache}
 use Rattle.machine.specs.Machine.{costOf}
 use Rattle.tables.specs.Lent.{Lent}
 use Rattle.analysis.specs.Analysis.{tableIn}
+use Rattle.flow.specs.Flow.{Cell, blank, holds}
 use Rattle.flow.specs.Pass.{Outcome, settled, spent, settle}
 use Rattle.ages.specs.Charted.{planOf}
-use Rattle.kept.specs.Kept.{keptFlow, keptPasses}
+use Rattle.kept.specs.Since.{Since}
+use Rattle.kept.specs.Kept.{keptFlow, keptPasses, keptTable}
+use Rattle.kept.specs.Checked.{blockPassing}
 use Rattle.demands.specs.Demand3.{keptMisses, readMisses}
 use Rattle.demands.specs.Charts.{loopChart}
 use Rattle.demands.specs.Soundings.{alone}
@@ -88,13 +92,33 @@ passesMade spent = 0
 abbrev pub keptCount : List ℕ → ℕ → ℕ
 keptCount bytes column = passesMade (settle (keptFlow (planOf (chartIn bytes)) column) (keptPasses (planOf (chartIn bytes))))
 
--- ---- passes
+-- A table of one block that has the same at every node.
+abbrev pub evenly : ℕ → Since → List (Cell Since)
+evenly nodes since = replicate nodes (holds since)
+
+-- 1 if it passes, and 0 if it does not.
+abbrev pub triedAs : List ℕ → ℕ → List (Cell Since) → ℕ
+triedAs bytes column table = cond (blockPassing (planOf (chartIn bytes)) column table) 1 0
+
+-- ---- passes, and tables that are tried
 
 abbrev pub stayingPasses : List Sounding
 stayingPasses =
     -- each block has its own count
     ((keptCount loopChart 0 ∷ keptCount (twoNodes 1 1) 0 ∷ keptCount (onlyNode 1 0 []) 0 ∷ []) reads (2 ∷ 3 ∷ 1 ∷ []))
     ∷ ((keptCount (eitherOther 2 1) 0 ∷ keptCount (eitherOther 2 1) 1 ∷ keptCount (eitherOther 2 1) 2 ∷ []) reads (2 ∷ 4 ∷ 4 ∷ []))
+    -- of block 0 there: the table that passes settle at, and one that has more everywhere
+    ∷ ((triedAs (eitherOther 2 1) 0 (keptTable (planOf (chartIn (eitherOther 2 1))) 0)
+    ∷ triedAs (eitherOther 2 1) 0 (evenly 4 (record { touched = true; others = false ∷ true ∷ true ∷ [] }))
+    ∷ []) reads (1 ∷ 1 ∷ []))
+    -- too little in a set, not touched, the block itself in its set, a flag that is missing, a node that is missing, and nothing at the entry
+    ∷ ((triedAs (eitherOther 2 1) 0 (evenly 4 (record { touched = true; others = false ∷ true ∷ false ∷ [] }))
+    ∷ triedAs (eitherOther 2 1) 0 (evenly 4 (record { touched = false; others = false ∷ true ∷ true ∷ [] }))
+    ∷ triedAs (eitherOther 2 1) 0 (evenly 4 (record { touched = true; others = true ∷ true ∷ true ∷ [] }))
+    ∷ triedAs (eitherOther 2 1) 0 (evenly 4 (record { touched = true; others = false ∷ true ∷ [] }))
+    ∷ triedAs (eitherOther 2 1) 0 (evenly 3 (record { touched = true; others = false ∷ true ∷ true ∷ [] }))
+    ∷ triedAs (eitherOther 2 1) 0 (replicate 4 blank)
+    ∷ []) reads (0 ∷ 0 ∷ 0 ∷ 0 ∷ 0 ∷ 0 ∷ []))
     ∷ []
 
 -- ---- classes

@@ -9,3 +9,4 @@ pub mod Turned
 pub mod Covered
 pub mod Walks
 pub mod Walked
+pub mod Checked

@@ -2,3 +2,4 @@ pub mod Since
 pub mod Kept
 pub mod Younger
 pub mod Walked
+pub mod Checked

@@ -1,6 +1,7 @@
 pub mod Cells
 pub mod Settling
 pub mod Ending
+pub mod Carried
 pub mod Reaching
 pub mod Turns
 pub mod Walking

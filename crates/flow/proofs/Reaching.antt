@@ -2,6 +2,7 @@
 use mathlib.Core.Path.{_≡_, refl, sym, subst}
 use mathlib.Core.List.{List, [], _∷_, _++_}
 use Prim.Native.Nat.{ℕ}
+use Rattle.flow.proofs.Carried.{carrying}
 use Rattle.flow.proofs.Settling.{afterPasses-underway, settle-tight}
 use Rattle.flow.proofs.Ending.{settle-after}
 use Rattle.lists.specs.Lists.{Among}
@@ -15,6 +16,16 @@ use Rattle.flow.specs.Walk.{Onward, lastOf, Reached}
 pub onward-more : (arrows : ℕ → List ℕ) (n t : ℕ) (ts : List ℕ) → Onward arrows n ts → Among t (arrows (lastOf n ts)) → Onward arrows n (ts ++ t ∷ [])
 onward-more arrows n t [] w i = (i, tt)
 onward-more arrows n t (k ∷ ts) w i = (w .0, onward-more arrows k t ts (w .1) i)
+
+pub last-more : (n t : ℕ) (ts : List ℕ) → lastOf n (ts ++ t ∷ []) ≡ t
+last-more n t [] = refl
+last-more n t (k ∷ ts) = last-more k t ts
+
+-- So a walk to n goes on to t.
+abbrev pub reached-more : (arrows : ℕ → List ℕ) (entry n t : ℕ) → Among t (arrows n) → Reached arrows entry n → Reached arrows entry t
+reached-more arrows entry n t i w =
+    let leads = subst (λ (k : ℕ). Among t (arrows k)) (sym (w .1 .1)) i in
+    (w .0 ++ t ∷ [], (onward-more arrows entry t (w .0) (w .1 .0) leads, last-more entry t (w .0)))
 
 module _ (F : Flow) where
   -- A walk reaches n, step by step.
@@ -40,16 +51,9 @@ module _ (F : Flow) where
   reach-onward n [] r w = r
   reach-onward n (t ∷ ts) r w = reach-onward t ts (onward r (w .0)) (w .1)
 
-  last-snoc : (n t : ℕ) (ts : List ℕ) → lastOf n (ts ++ t ∷ []) ≡ t
-  last-snoc n t [] = refl
-  last-snoc n t (k ∷ ts) = last-snoc k t ts
-
   reach-reached : {n : ℕ} → Reach n → Reached (F .arrows) (F .entry) n
   reach-reached at-entry = ([], (tt, refl))
-  reach-reached (onward {n = n} {t = t} r i) = go (reach-reached r)
-    where
-      go : Reached (F .arrows) (F .entry) n → Reached (F .arrows) (F .entry) t
-      go w = (w .0 ++ t ∷ [], (onward-more (F .arrows) (F .entry) t (w .0) (w .1 .0) (subst (λ (k : ℕ). Among t (F .arrows k)) (sym (w .1 .1)) i), last-snoc (F .entry) t (w .0)))
+  reach-reached (onward {n = n} {t = t} r i) = reached-more (F .arrows) (F .entry) n t i (reach-reached r)
 
   reached-reach : (n : ℕ) → Reached (F .arrows) (F .entry) n → Reach n
   reached-reach n w = subst Reach (w .1 .1) (reach-onward (F .entry) (w .0) at-entry (w .1 .0))
@@ -57,23 +61,7 @@ module _ (F : Flow) where
 module _ (F : Flow) (L : Laws F) where
   -- the same laws, with the walk carried along
   abbrev reach-laws : Laws F
-  reach-laws = record {
-    Real = λ n a. L .Real n a × Reach F n;
-    entry-in = L .entry-in;
-    arrows-in = L .arrows-in;
-    real-ok = λ n a r. L .real-ok n a (r .0);
-    real-start = (L .real-start, at-entry);
-    real-step = λ n t a h i r. (L .real-step n t a h i (r .0), onward (r .1) i);
-    real-meet = λ n a b r s. (L .real-meet n a b (r .0) (s .0), r .1);
-    below-refl = L .below-refl;
-    below-trans = L .below-trans;
-    below-both = L .below-both;
-    meet-left = λ n a b r s. L .meet-left n a b (r .0) (s .0);
-    meet-right = λ n a b r s. L .meet-right n a b (r .0) (s .0);
-    meet-least = λ n a b c r s. L .meet-least n a b c (r .0) (s .0);
-    monotone = λ n a b h r. L .monotone n a b h (r .0);
-    same-yes = L .same-yes;
-  }
+  reach-laws = carrying F (λ n a. Reach F n) at-entry (λ n t a i r. onward r i) (λ n a b r s. r) L
 
   marked-reach : (k n : ℕ) → Marked (cellAt (afterPasses F k) n) → Reach F n
   marked-reach k n m = go (cellAt (afterPasses F k) n) m (afterPasses-underway F reach-laws k .fine n)

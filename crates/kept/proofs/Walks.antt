@@ -11,7 +11,8 @@ use Rattle.flow.specs.Laws.{Laws, CellReal}
 use Rattle.flow.specs.Walk.{Onward, lastOf, inTurn}
 use Rattle.flow.proofs.Settling.{afterPasses-underway}
 use Rattle.flow.proofs.Ending.{settle-after}
-use Rattle.flow.proofs.Reaching.{onward-more}
+use Rattle.flow.proofs.Carried.{carrying}
+use Rattle.flow.proofs.Reaching.{reached-more}
 use Rattle.ages.specs.Plan.{Plan, touchesIn, arrowsIn, Sound}
 use Rattle.kept.specs.Since.{Since, isIn, untouched, SinceLess}
 use Rattle.kept.specs.Kept.{afterTouchOf, keptFlow, keptPasses, keptTable, sinceOf}
@@ -27,10 +28,6 @@ use Rattle.kept.proofs.Covered.{Covered, turns-covered, meet-covered, s
 turns-joined : {E X : Type 0} (act : E → X → X) (es fs : List E) (x : X) → inTurn act (es ++ fs) x ≡ inTurn act fs (inTurn act es x)
 turns-joined act [] fs x = refl
 turns-joined act (e ∷ es) fs x = turns-joined act es fs (act e x)
-
-last-more : (n t : ℕ) (ts : List ℕ) → lastOf n (ts ++ t ∷ []) ≡ t
-last-more n t [] = refl
-last-more n t (k ∷ ts) = last-more k t ts
 
 module _ (plan : Plan) (block : ℕ) where
   abbrev step : ℕ → Since → Since
@@ -51,9 +48,7 @@ module _ (plan : Plan) (block : ℕ) where
 
   -- A walk to n goes on to t.
   abbrev goes-on : (n t : ℕ) → Among t (arrowsIn plan n) → WalkTo plan n → WalkTo plan t
-  goes-on n t i w =
-      let leads = subst (λ (k : ℕ). Among t (arrowsIn plan k)) (sym (w .1 .1)) i in
-      (w .0 ++ t ∷ [], (onward-more (arrowsIn plan) (plan .entry) t (w .0) (w .1 .0) leads, last-more (plan .entry) t (w .0)))
+  goes-on = reached-more (arrowsIn plan) (plan .entry)
 
   since-on : (n t : ℕ) (i : Among t (arrowsIn plan n)) (w : WalkTo plan n)
       → step plan block n (walkSince plan block n w) ≡ walkSince plan block t (goes-on n t i w)
@@ -69,24 +64,11 @@ module _ (plan : Plan) (block : ℕ) where
 
   -- The laws of the block's flow, with what walks have carried along.
   abbrev walkLaws : Laws (keptFlow plan block) → Laws (keptFlow plan block)
-  walkLaws L =
-      record {
-        Real = λ n a. L .Real n a × CoveredAt n a;
-        entry-in = L .entry-in;
-        arrows-in = L .arrows-in;
-        real-ok = λ n a r. L .real-ok n a (r .0);
-        real-start = (L .real-start, start-covered (plan .blocks) (WalkTo plan (plan .entry)) (walkSince plan block (plan .entry)) ([], (tt, refl)));
-        real-step = λ n t a h i r. (L .real-step n t a h i (r .0), step-covered n t a i (r .1));
-        real-meet = λ n a b r s. (L .real-meet n a b (r .0) (s .0), meet-covered (plan .blocks) (WalkTo plan n) (walkSince plan block n) a b (r .1) (s .1));
-        below-refl = L .below-refl;
-        below-trans = L .below-trans;
-        below-both = L .below-both;
-        meet-left = λ n a b r s. L .meet-left n a b (r .0) (s .0);
-        meet-right = λ n a b r s. L .meet-right n a b (r .0) (s .0);
-        meet-least = λ n a b c r s. L .meet-least n a b c (r .0) (s .0);
-        monotone = λ n a b h r. L .monotone n a b h (r .0);
-        same-yes = L .same-yes;
-      }
+  walkLaws =
+      carrying (keptFlow plan block) CoveredAt
+      (start-covered (plan .blocks) (WalkTo plan (plan .entry)) (walkSince plan block (plan .entry)) ([], (tt, refl)))
+      step-covered
+      (λ n. meet-covered (plan .blocks) (WalkTo plan n) (walkSince plan block n))
 
 -- ---- no walk has more
 

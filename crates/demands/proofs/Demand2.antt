@@ -209,7 +209,7 @@ kept-settled bytes chart column read inside =
     record {
       passes = done .0;
       settles = subst (λ (allowance : ℕ). settle (keptFlow plan column) allowance ≡ settled (done .0) (keptTable plan column)) most (done .1);
-      made = settle-made (keptFlow plan column) (keptPasses plan) (done .0) (keptTable plan column) (done .1);
+      one-made = settle-made (keptFlow plan column) (keptPasses plan) (done .0) (keptTable plan column) (done .1);
       last = settle-after (keptFlow plan column) (keptPasses plan) (done .0) (keptTable plan column) (done .1) .last;
       earlier = settle-after (keptFlow plan column) (keptPasses plan) (done .0) (keptTable plan column) (done .1) .earlier;
       count = λ allowance made table e. omega (arith, kept-count plan sound few column inside allowance made table e);

@@ -104,7 +104,7 @@ pub record KeptSettles (chart : Chart) (column : ℕ) : Type 0 where
   pub count : (allowance made : ℕ) (table : Table (keptFlow (planOf chart) column))
       → settle (keptFlow (planOf chart) column) allowance ≡ settled made table
       → made ≤ 65 * chart .header .nodes + 1
-  pub made : 0 < passes
+  pub one-made : 0 < passes
   pub last : (k : ℕ) → suc k ≡ passes → pass (keptFlow (planOf chart) column) (afterPasses (keptFlow (planOf chart) column) k) .changed ≡ false
   pub earlier : (k : ℕ) → suc k < passes → pass (keptFlow (planOf chart) column) (afterPasses (keptFlow (planOf chart) column) k) .changed ≡ true
   -- rule 16.6: it passes its own equations, and is the tightest of those that do

@@ -26,8 +26,8 @@ module _ (columns words lowers uppers : List ℕ) (block : ℕ) where
   -- Rule 8.2: of node n. The first touch goes by the word on arrival, the second by that after the first.
   unfoldable pub toldNode : ℕ → List ℕ → List ℕ
   toldNode n stays =
-      cond (eqb (getD lowers n 0) block) (set stays (2 * n) (staysIn columns block (getD words n 0)))
-      (cond (eqb (getD uppers n 0) block) (set stays (2 * n + 1) (staysIn columns block (wordTouched columns block (getD lowers n 0) (getD words n 0)))) stays)
+      cond (eqb (getD lowers n 0) block) (set stays (mostTouches * n) (staysIn columns block (getD words n 0)))
+      (cond (eqb (getD uppers n 0) block) (set stays (mostTouches * n + 1) (staysIn columns block (wordTouched columns block (getD lowers n 0) (getD words n 0)))) stays)
 
   -- Of the nodes before n.
   unfoldable pub toldTo : ℕ → List ℕ → List ℕ

@@ -7,6 +7,7 @@ ghost use Rattle.chart.specs.Geometry.{mostBlocks};
 ghost use Rattle.keeping.specs.Telling.{TellsFrom, toldNode, toldTo};
 use crate::words::stays_in;
 use crate::words::touch_word;
+use chart::Geometry;
 
 // The same number, of another type.
 fn wide(number: u8) -> usize
@@ -33,12 +34,12 @@ fn tell_node(
     let lower = wide(lowers[n]);
     let upper = wide(uppers[n]);
     if lower == block {
-        stays[2 * n] = stays_in(columns, words[n], block);
+        stays[Geometry::TOUCHES * n] = stays_in(columns, words[n], block);
         return;
     }
     if upper == block {
         let touched = touch_word(columns, words[n], block, lower);
-        stays[2 * n + 1] = stays_in(columns, touched, block);
+        stays[Geometry::TOUCHES * n + 1] = stays_in(columns, touched, block);
     }
 }
 

@@ -3,14 +3,12 @@ use mathlib.Core.Path.{_≡_}
 use Prim.Native.Nat.{ℕ, zero, _+_, _*_, _/_, _%_, _^_, _≤_, _<_}
 use mathlib.Core.List.{List}
 use native.Mathlib.Omega.{arith}
+use Rattle.lists.proofs.Shifts.{one-shifted}
 use Rattle.chart.specs.Layout.{numberAt}
-use native.Mathlib.Nat.{add-assoc, one-mul, mod-eq-of-lt, div-eq-of-lt, lt-of-lt-of-le}
-use lib.Pow.{pow-pos, pow-mono, pow-lt}
+use native.Mathlib.Nat.{add-assoc, mod-eq-of-lt, div-eq-of-lt, lt-of-lt-of-le}
+use lib.Pow.{pow-pos, pow-mono}
 
--- `1 << k` of a type of w bits
-pub one-shifted : (w k : ℕ) → k < w → (1 * 2 ^ k) % 2 ^ w ≡ 2 ^ k
-one-shifted w k h = rw one-mul (mod-eq-of-lt (pow-lt h))
-
+-- `1 << k` of a type of w bits is never 0.
 pub one-shifted-pos : (w k : ℕ) → k < w → zero < (1 * 2 ^ k) % 2 ^ w
 one-shifted-pos w k h = rw (one-shifted w k h) (pow-pos k)
 

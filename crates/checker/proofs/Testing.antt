@@ -1,8 +1,8 @@
 -- Turns of the checker's loops, and what its tests on rows by value say of a plan's table.
 use Prim.Native.Nat.{ℕ, _+_, _*_, _≤_, _<_}
-use mathlib.Core.Bool.{Bool, cond, _&&_}
+use mathlib.Core.Bool.{Bool, _&&_}
 use mathlib.Core.List.{List}
-use mathlib.Core.Path.{_≡_, sym, ap, _∙_}
+use mathlib.Core.Path.{_≡_, sym, ap, subst, _∙_}
 use native.Mathlib.Omega.{arith}
 use borrow.Author.Tests.{ne-eqb}
 use lib.Dec.{leb}
@@ -96,16 +96,18 @@ module _ {columns plan : List ℕ} (drawn : Drawn columns plan) (lent : Lent) (n
       rw (mark, and-last) (λ i. fit-held i && (e ∙ (λ j. zeroed (is j) (rowAges (is j) (lent .must) (lent .may) n))) i)
 
   module _ (inside : n < nodesIn plan) (roomy : Roomy (nodesIn plan) (blocksIn plan) (lent .must) (lent .may) (lent .marks))
-      {node : PlannedNode} (found : node ≡ nodeIn plan n) {row : Ages} (after : row ≡ rowAfter columns (lent .must) (lent .may) blocks n (node .what)) where
-    after-held : row ≡ rowAfter columns (lent .must) (lent .may) (blocksIn plan) n (nodeIn plan n .what)
-    after-held = after ∙ (λ i. rowAfter columns (lent .must) (lent .may) (is i) n (found i .what))
+      {node : PlannedNode} (found : node ≡ nodeIn plan n) (row : Ages) (after : AgesAgree blocks row (rowAfter columns (lent .must) (lent .may) blocks n (node .what))) where
+    after-held : AgesAgree (blocksIn plan) row (rowAfter columns (lent .must) (lent .may) (blocksIn plan) n (nodeIn plan n .what))
+    after-held =
+        subst (λ (p : PlannedNode). AgesAgree (blocksIn plan) row (rowAfter columns (lent .must) (lent .may) (blocksIn plan) n (p .what))) found
+        (subst (λ (b : ℕ). AgesAgree b row (rowAfter columns (lent .must) (lent .may) b n (node .what))) is after)
 
     pub marked-passing : (getD (lent .marks) n 0 ≡ 0 → ⊥) → {out : Bool} → out ≡ everyOf (allows blocks lent row) (arrowsOf (node .targets))
         → (leb (getD (lent .marks) n 0) 1 && (fit && out)) ≡ nodePassing held lent n
     marked-passing mark {out} e =
-        let agrees = after-agrees columns plan drawn n inside lent (roomy .must-room) (roomy .may-room) in
+        let agrees = after-agrees columns plan drawn n inside lent (roomy .must-room) (roomy .may-room) row after-held in
         let out-held : out ≡ everyOf (allows (blocksIn plan) lent (planFlow held .step n (agesAt held lent n))) (arrowsIn held n) =
         e
-        ∙ (λ i. everyOf (allows (is i) lent (after-held i)) (arrowsOf (found i .targets)))
+        ∙ (λ i. everyOf (allows (is i) lent row) (arrowsOf (found i .targets)))
         ∙ (λ i. everyOf (λ t. allows-agree (blocksIn plan) _ _ agrees lent t i) (sym (arrows-held columns plan n inside) i)) in
         rw (ne-eqb _ _ mark) (λ i. leb (getD (lent .marks) n 0) 1 && (fit-held i && out-held i))

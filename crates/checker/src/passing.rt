@@ -9,6 +9,7 @@ ghost use Rattle.checker.specs.Checker.{nodePassing};
 use crate::allowing::targets_allow;
 use crate::fitting::row_fits;
 use crate::fitting::row_zero;
+use chart::Geometry;
 use rows::Row;
 
 // Whether node n's mark is plain, its ages fit, and its row is 0 where it is not marked, or its targets allow its row after its record.
@@ -33,9 +34,18 @@ fn node_passing(
     let node = plan::node_in(plan, n);
     let planned = node.what;
     let targets = node.targets;
-    let mut musts = tables::load_row(must, blocks, n);
-    let mut mays = tables::load_row(may, blocks, n);
-    rows::step(&mut musts, &mut mays, columns, planned);
+    let mut musts = [0u8; Geometry::BLOCKS];
+    let mut mays = [0u8; Geometry::BLOCKS];
+    tables::row_after(
+        must,
+        may,
+        columns,
+        blocks,
+        n,
+        planned,
+        &mut musts,
+        &mut mays,
+    );
     let allowed = targets_allow(
         must,
         may,

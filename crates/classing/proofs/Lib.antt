@@ -1,2 +1,3 @@
 pub mod Reading
-pub mod Refining
+pub mod Wanted
+pub mod Refined

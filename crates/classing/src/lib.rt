@@ -1,19 +1,23 @@
 // Works out the two classes of each node of a lent table (rules 8.1 and 8.2), for the analysis, which leaves them, and the totals, which sum by them:
 // first by the ages alone, and then what is unsure by the sets since. Callers keep that there is room for the table, and for the classes. Nothing is
 // refused here.
+mod refining;
+mod wanting;
+
 ghost use mathlib.Core.Path.{_≡_};
 ghost use Prim.Native.Nat.{_*_, _≤_, _<_};
 ghost use lib.ListN.{length};
 ghost use Rattle.lists.specs.Lists.{written};
 ghost use Rattle.chart.specs.Geometry.{mostBlocks, mostTouches};
 ghost use Rattle.flow.specs.Flow.{cellAt};
-ghost use Rattle.plan.specs.Listed.{nodesIn, planIn, DrawnIn, planAt};
-ghost use Rattle.keeping.specs.Told.{StaysTold};
+ghost use Rattle.plan.specs.Listed.{nodesIn, DrawnIn, planAt};
 ghost use Rattle.tables.specs.Lent.{tableOf};
 ghost use Rattle.tables.specs.Contract.{entryTable, RoomFor};
 ghost use mathlib.Core.Bool.{false};
 ghost use Rattle.classes.specs.Class.{classBy, tableClasses};
-ghost use Rattle.classing.specs.Both.{pairAt, classAfter, bothByAges, refined};
+ghost use Rattle.classing.specs.Both.{pairAt, classAfter, bothByAges, ageTable};
+use crate::refining::refine_all;
+use crate::wanting::wanted_columns;
 use chart::Geometry;
 use plan::PlannedRecord;
 
@@ -60,8 +64,8 @@ fn pair_at(must: &[u8], may: &[u8], place: usize) -> Pair
     }
 }
 
-// The class of a touch of the block in column `upper`, just after one of the block in another column, `lower` (rule 8.2), by the ages of the two before
-// that: `first` of the lower, `second` of the upper.
+// The class of a touch of the block in column `upper`, just after one of the block in another column, `lower` (rule 8.2), by the ages of the two
+// before that: `first` of the lower, `second` of the upper.
 fn class_after(columns: &[u8], lower: usize, upper: usize, first: Pair, second: Pair) -> u8
     requires { ⌜ (lower < mostBlocks) × (upper < mostBlocks) ⌝ }
     requires { ⌜ 3 * mostBlocks ≤ length (now columns) ⌝ }
@@ -84,7 +88,8 @@ pub(crate) struct Classes {
     pub second: u8,
 }
 
-// The classes of node n by its ages alone: unreached where it is not marked, none for a touch that it does not make, else those of its touches in turn.
+// The classes of node n by its ages alone: unreached where it is not marked, none for a touch that it does not make, else those of its touches in
+// turn.
 fn classes_at(
     columns: &[u8],
     plan: &[u16],
@@ -131,45 +136,31 @@ fn classes_at(
     }
 }
 
-// A class by the ages alone, or kept: where it is unsure, and `stays` is not 0.
-fn refine(class: u8, stays: u8) -> u8
-    ensures { λ r. ⌜ r ≡ refined class stays ⌝ }
-{
-    if (class == UNSURE) & (stays != 0) {
-        KEPT
-    } else {
-        class
-    }
-}
-
-// Writes the two classes of each node over the start of `classes`, which keeps the rest, where it is told of each touch whether few blocks are in the
-// set of its block.
+// Writes the two classes of each node by its ages alone over the start of `classes`, which keeps the rest.
 fn put_classes(
     columns: &[u8],
     plan: &[u16],
     must: &[u8],
     may: &[u8],
     marks: &[u8],
-    stays: &[u8],
     classes: &mut [u8],
 )
     requires { ⌜ DrawnIn columns plan ⌝ }
     requires { ⌜ RoomFor plan must may marks ⌝ }
-    requires { ⌜ (mostTouches * nodesIn (now plan) ≤ length (now stays)) × (mostTouches * nodesIn (now plan) ≤ length (now classes)) ⌝ }
-    requires { ⌜ StaysTold (planIn (now columns) (now plan)) (now stays) ⌝ }
-    ensures { λ r. ⌜ now (classes .exit) ≡ written (tableClasses (planAt columns plan) (tableOf (planAt columns plan) (entryTable must may marks))) (now (classes .entry)) ⌝ }
+    requires { ⌜ mostTouches * nodesIn (now plan) ≤ length (now classes) ⌝ }
+    ensures { λ r. ⌜ now (classes .exit) ≡ written (ageTable (planAt columns plan) (tableOf (planAt columns plan) (entryTable must may marks))) (now (classes .entry)) ⌝ }
 {
     let nodes = plan::nodes_in(plan);
     for n in 0..nodes {
         let both = classes_at(columns, plan, must, may, marks, n);
         let first = Geometry::TOUCHES * n;
-        let second = first + 1;
-        classes[first] = refine(both.first, stays[first]);
-        classes[second] = refine(both.second, stays[second]);
+        classes[first] = both.first;
+        classes[first + 1] = both.second;
     }
 }
 
-// Writes the two classes of each node over the start of `classes`, which keeps the rest.
+// Writes the two classes of each node over the start of `classes`, which keeps the rest. What is kept is worked out only of the blocks of touches
+// that are unsure by their ages.
 pub fn write_classes(
     columns: &[u8],
     plan: &[u16],
@@ -183,7 +174,12 @@ pub fn write_classes(
     requires { ⌜ mostTouches * nodesIn (now plan) ≤ length (now classes) ⌝ }
     ensures { λ r. ⌜ now (classes .exit) ≡ written (tableClasses (planAt columns plan) (tableOf (planAt columns plan) (entryTable must may marks))) (now (classes .entry)) ⌝ }
 {
+    put_classes(columns, plan, must, may, marks, classes);
+    let wanted = wanted_columns(plan, classes);
+    if wanted == 0 {
+        return;
+    }
     let mut stays = [0u8; Geometry::CLASSES];
-    keeping::write_stays(columns, plan, &mut stays);
-    put_classes(columns, plan, must, may, marks, &stays, classes);
+    keeping::write_stays(columns, plan, wanted, &mut stays);
+    refine_all(&stays, classes, Geometry::TOUCHES * plan::nodes_in(plan));
 }

@@ -9,3 +9,4 @@ pub mod Paying
 pub mod Outcomes
 pub mod Counting
 pub mod Working
+pub mod Due

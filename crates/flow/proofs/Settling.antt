@@ -165,7 +165,7 @@ module _ (F : Flow) (L : Laws F) where
   pub underway-tightest : (T : Table F) → Underway F L T → Passing F T → Tightest F T
   underway-tightest T f p = record { passing = p; least = f .under }
 
-  before-at : cellAt (before F) (F .entry) ≡ holds (F .start)
+  pub before-at : cellAt (before F) (F .entry) ≡ holds (F .start)
   unfolding before
   before-at = getD-set-same (replicate (F .nodes) blank) (F .entry) (holds (F .start)) blank (rw length-replicate (L .entry-in))
 

@@ -1,13 +1,19 @@
--- Tables that are worked on node by node, and not in passes: which nodes are due, and what is still to be sent from the node at hand.
+-- Tables of which only the nodes that are due are taken, in passes or in any order: which nodes are due, and what is still to be sent from the node at hand.
 -- Nothing here is a rule of the tool: laws and contracts of inner functions speak of it.
 use mathlib.Core.Path.{_≡_}
-use mathlib.Core.Bool.{Bool, true}
-use mathlib.Core.List.{List}
+use mathlib.Core.Bool.{Bool, true, false, cond, _||_}
+use mathlib.Core.List.{List, [], _∷_}
 use mathlib.Core.Logic.{_⊎_}
 use Prim.Native.Nat.{ℕ, _<_}
+use lib.Dec.{eqb}
 use Rattle.lists.specs.Lists.{Among}
 use Rattle.flow.specs.Flow.{holds, cellAt, Flow, Table}
 use Rattle.flow.specs.Passing.{CellBelow, leaving, Marked}
+use Rattle.flow.specs.Pass.{changes, metAt}
+
+-- The nodes that are due when one no longer is.
+abbrev pub butOne : ℕ → (ℕ → Bool) → ℕ → Bool
+butOne n due m = cond (eqb m n) false (due m)
 
 module _ (F : Flow) where
   -- The target of an arrow has what the arrow brings.
@@ -33,3 +39,17 @@ module _ (F : Flow) where
     pub still-due : (m : ℕ) → due m ≡ true → after m ≡ true
     pub newly-due : (m : ℕ) → after m ≡ true → (due m ≡ true) ⊎ (m ≡ t)
     pub due-or-same : (after t ≡ true) ⊎ (U ≡ T)
+
+  -- The nodes that are due when a state has come to t: those that were, and t, where the state changes what t holds.
+  abbrev pub dueWith : Table F → F .State → ℕ → (ℕ → Bool) → ℕ → Bool
+  dueWith T a t due m = due m || cond (changes F (cellAt T t) a) (eqb m t) false
+
+  -- The same of a state that goes to each target in turn.
+  abbrev pub dueSent : F .State → List ℕ → Table F → (ℕ → Bool) → ℕ → Bool
+  dueSent a [] T due = due
+  dueSent a (t ∷ ts) T due = dueSent a ts (metAt F T t a) (dueWith T a t due)
+
+  -- When node n, whose state after its record this is, has been taken: it is no longer due before it sends, so that it is again where an arrow leads back to
+  -- it and brings a change.
+  abbrev pub dueTaken : ℕ → F .State → Table F → (ℕ → Bool) → ℕ → Bool
+  dueTaken n a T due = dueSent a (F .arrows n) T (butOne n due)

@@ -1,7 +1,7 @@
--- What a flood begins with: the entry alone, where nothing is marked; and where the nodes that walks reach are marked, those of them that touch the
--- block. And what it ends with: marks on the nodes that walks reach.
+-- What a flood begins with: the entry alone, where nothing is marked; and where the nodes that walks reach are marked, those of them that touch one
+-- of the blocks. And what it ends with: marks on the nodes that walks reach.
 use Prim.Native.Nat.{ℕ, _+_, _<_}
-use mathlib.Core.Bool.{Bool, true, false, cond, not, _&&_, _||_, true≢false}
+use mathlib.Core.Bool.{Bool, true, false, cond, not, _&&_, true≢false}
 use mathlib.Core.List.{List, [], _∷_}
 use mathlib.Core.Logic.{_⊎_, inl, inr}
 use mathlib.Core.Path.{_≡_, refl, sym, ap, subst, _∙_}
@@ -23,20 +23,20 @@ use Rattle.ages.specs.Plan.{ColumnTouch, Plan, columnsOf, arrowsIn}
 use Rattle.plan.specs.declared.PlannedRecord.{PlannedRecord}
 use Rattle.plan.specs.declared.PlannedRecord.the-variants.{Step, Reference}
 use Rattle.plan.specs.Listed.{nodesIn, blocksIn, entryIn, nodeIn, touchesBy, planIn, Drawn}
-use Rattle.plan.proofs.Holding.{key-held}
 use Rattle.kept.specs.Since.{Since, untouched}
 use Rattle.kept.specs.Kept.{keptFlow, keptTable}
 use Rattle.kept.proofs.Comparing.{less-refl}
 use Rattle.kept.proofs.Settled.{kept-tightest, kept-reached}
 use Rattle.kept.proofs.Touching.{untouched-least}
-use Rattle.keeping.specs.Words.{sinceIn, wordAfter}
+use Rattle.keeping.specs.Words.{Grouped, Chosen, touchesChosen, sinceIn, wordAfter}
 use Rattle.keeping.specs.Work.{Roomy, spanTo}
-use Rattle.keeping.specs.Flood.{tableIn, dueIn, Stands, Flooded}
-use Rattle.keeping.specs.Columns.{lowerOf, upperOf, ColumnsListed}
+use Rattle.keeping.specs.Flood.{tableIn, dueIn, Stands, Flooded, AllFlooded}
+use Rattle.keeping.specs.Columns.{groupOf}
 use Rattle.keeping.specs.Starting.{MarksReached, Zeros, dueBy}
 use Rattle.keeping.proofs.States.{word-none, words-none}
 use Rattle.keeping.proofs.Tables.{cell-bare, cell-held, cells-all, mark-marked, marked-mark}
 use Rattle.keeping.proofs.Visiting.{step-held}
+use Rattle.keeping.proofs.Chosen.{first-chosen}
 
 module _ (columns plan : List ℕ) (drawn : Drawn columns plan) (block : ℕ) (inside : block < blocksIn plan) where
   abbrev held : Plan
@@ -46,8 +46,8 @@ module _ (columns plan : List ℕ) (drawn : Drawn columns plan) (block : ℕ) (i
   start-held : (marks words : List ℕ) (n : ℕ) → n < nodesIn plan → (getD marks n 0 ≡ 0 → ⊥) → getD words n 0 ≡ 0 → cellAt (tableIn held block marks words) n ≡ holds (untouched (blocksIn plan))
   start-held marks words n h marked none =
       cell-held held block marks words n h marked
-      ∙ ap (λ (w : ℕ). holds (sinceIn (blocksIn plan) block w)) none
-      ∙ ap holds (word-none (blocksIn plan) block)
+      ∙ ap (λ (w : ℕ). holds (sinceIn (columnsOf held) block w)) none
+      ∙ ap holds (word-none (columnsOf held) block)
 
   -- ---- the entry alone
 
@@ -99,7 +99,7 @@ module _ (columns plan : List ℕ) (drawn : Drawn columns plan) (block : ℕ) (i
           under = λ P p.
               cells-all held block (set marks (entryIn plan) 1) words (λ n c. CellBelow (keptFlow held block) c (cellAt P n)) (λ n. tt)
               (λ n h marked.
-              subst (λ (s : Since). CellBelow (keptFlow held block) (holds s) (cellAt P n)) (sym (ap (sinceIn (blocksIn plan) block) (zeros .words-zero n h) ∙ word-none (blocksIn plan) block))
+              subst (λ (s : Since). CellBelow (keptFlow held block) (holds s) (cellAt P n)) (sym (ap (sinceIn (columnsOf held) block) (zeros .words-zero n h) ∙ word-none (columnsOf held) block))
               (subst (λ (k : ℕ). CellBelow (keptFlow held block) (holds (untouched (blocksIn plan))) (cellAt P k)) (sym (only-entry n h marked)) (p .begun)));
           working =
               record {
@@ -111,10 +111,10 @@ module _ (columns plan : List ℕ) (drawn : Drawn columns plan) (block : ℕ) (i
           high-in = omega arith;
         }
 
-  -- ---- the nodes that touch the block
+  -- ---- the nodes that touch one of the blocks
 
-  module _ (marks words due lowers uppers : List ℕ) (listed : ColumnsListed plan lowers uppers) (reach : MarksReached held marks)
-      (none : (n : ℕ) → n < nodesIn plan → getD words n 0 ≡ 0) (touching : (n : ℕ) → n < nodesIn plan → getD due n 0 ≡ dueBy (getD marks n 0) (getD lowers n 0) (getD uppers n 0) block) where
+  module _ (chosen sets : List ℕ) (grouped : Grouped (blocksIn plan) (groupOf columns chosen sets)) (own : Chosen chosen block) (marks words due : List ℕ) (reach : MarksReached held marks)
+      (none : (n : ℕ) → n < nodesIn plan → getD words n 0 ≡ 0) (touching : (n : ℕ) → n < nodesIn plan → getD due n 0 ≡ dueBy chosen (getD marks n 0) (nodeIn plan n .what)) where
     abbrev reached : ℕ → Type 0
     reached n = Reached (arrowsIn held) (entryIn plan) n
 
@@ -144,38 +144,38 @@ module _ (columns plan : List ℕ) (drawn : Drawn columns plan) (block : ℕ) (i
     entry-reached : reached (entryIn plan)
     entry-reached = ([], (tt, refl))
 
-    -- a record that does not touch the block
-    touch-apart : (planned : PlannedRecord) → eqb (lowerOf planned) block ≡ false → eqb (upperOf planned) block ≡ false
-        → (touch : ColumnTouch) → Among touch (touchesBy planned) → touch .column ≡ block → ⊥
-    touch-apart Step l u touch i q = i
-    touch-apart (Reference reference) l u touch (inl e) q = eqb-false (reference .lower) block l (sym (ap (λ (t : ColumnTouch). t .column) e) ∙ q)
-    touch-apart (Reference reference) l u touch (inr i) q = go (eqb (reference .lower) (reference .upper)) i
+    -- a record that touches none of the blocks
+    touch-apart : (planned : PlannedRecord) → touchesChosen chosen planned ≡ false → (touch : ColumnTouch) → Among touch (touchesBy planned) → Chosen chosen (touch .column) → ⊥
+    touch-apart Step e touch i q = i
+    touch-apart (Reference reference) e touch (inl is) q =
+        let both = or-false (eqb (getD chosen (reference .lower) 0) (reference .lower)) (eqb (getD chosen (reference .upper) 0) (reference .upper)) e in
+        eqb-false (getD chosen (reference .lower) 0) (reference .lower) (both .0) (subst (λ (t : ColumnTouch). Chosen chosen (t .column)) is q)
+    touch-apart (Reference reference) e touch (inr i) q = go (eqb (reference .lower) (reference .upper)) i
       where
         go : (b : Bool) → Among touch (cond b [] (record { column = reference .upper; write = reference .write } ∷ [])) → ⊥
         go true j = j
-        go false (inl e) = eqb-false (reference .upper) block u (sym (ap (λ (t : ColumnTouch). t .column) e) ∙ q)
+        go false (inl is) =
+            let both = or-false (eqb (getD chosen (reference .lower) 0) (reference .lower)) (eqb (getD chosen (reference .upper) 0) (reference .upper)) e in
+            eqb-false (getD chosen (reference .upper) 0) (reference .upper) (both .1) (subst (λ (t : ColumnTouch). Chosen chosen (t .column)) is q)
         go false (inr j) = j
 
-    step-still : (n : ℕ) → n < nodesIn plan → (eqb (getD lowers n 0) block || eqb (getD uppers n 0) block) ≡ false → keptFlow held block .step n (untouched (blocksIn plan)) ≡ untouched (blocksIn plan)
+    step-still : (n : ℕ) → n < nodesIn plan → touchesChosen chosen (nodeIn plan n .what) ≡ false → keptFlow held block .step n (untouched (blocksIn plan)) ≡ untouched (blocksIn plan)
     unfolding wordAfter
     step-still n h e =
-        let both = or-false (eqb (getD lowers n 0) block) (eqb (getD uppers n 0) block) e in
-        let lower : eqb (lowerOf (nodeIn plan n .what)) block ≡ false = ap (λ (k : ℕ). eqb k block) (sym (listed .lower-is n h)) ∙ both .0 in
-        let upper : eqb (upperOf (nodeIn plan n .what)) block ≡ false = ap (λ (k : ℕ). eqb k block) (sym (listed .upper-is n h)) ∙ both .1 in
-        let still : wordAfter columns block (nodeIn plan n .what) 0 ≡ 0 = words-none columns (columnsOf held) (key-held columns plan) block inside (touchesBy (nodeIn plan n .what)) (touch-apart (nodeIn plan n .what) lower upper) in
-        ap (keptFlow held block .step n) (sym (word-none (blocksIn plan) block))
-        ∙ sym (step-held columns plan drawn block inside n h 0)
-        ∙ ap (sinceIn (blocksIn plan) block) still
-        ∙ word-none (blocksIn plan) block
+        let still : wordAfter (groupOf columns chosen sets) (nodeIn plan n .what) 0 ≡ 0 = words-none (groupOf columns chosen sets) (touchesBy (nodeIn plan n .what)) (touch-apart (nodeIn plan n .what) e) in
+        ap (keptFlow held block .step n) (sym (word-none (columnsOf held) block))
+        ∙ sym (step-held columns plan drawn chosen sets grouped block inside own n h 0)
+        ∙ ap (sinceIn (columnsOf held) block) still
+        ∙ word-none (columnsOf held) block
 
     begins-brought : (n t : ℕ) → n < nodesIn plan → Among t (arrowsIn held n) → (dueIn due n ≡ true) ⊎ Brought (keptFlow held block) (tableIn held block marks words) n t
     unfolding dueBy
-    begins-brought n t h i = go (eqb (getD marks n 0) 0) refl (eqb (getD lowers n 0) block || eqb (getD uppers n 0) block) refl
+    begins-brought n t h i = go (eqb (getD marks n 0) 0) refl (touchesChosen chosen (nodeIn plan n .what)) refl
       where
-        due-is : (b s : Bool) → eqb (getD marks n 0) 0 ≡ b → (eqb (getD lowers n 0) block || eqb (getD uppers n 0) block) ≡ s → getD due n 0 ≡ cond (not b && s) 1 0
+        due-is : (b s : Bool) → eqb (getD marks n 0) 0 ≡ b → touchesChosen chosen (nodeIn plan n .what) ≡ s → getD due n 0 ≡ cond (not b && s) 1 0
         due-is b s e d = touching n h ∙ (rw (e, d))
 
-        go : (b : Bool) → eqb (getD marks n 0) 0 ≡ b → (s : Bool) → (eqb (getD lowers n 0) block || eqb (getD uppers n 0) block) ≡ s
+        go : (b : Bool) → eqb (getD marks n 0) 0 ≡ b → (s : Bool) → touchesChosen chosen (nodeIn plan n .what) ≡ s
             → (dueIn due n ≡ true) ⊎ Brought (keptFlow held block) (tableIn held block marks words) n t
         go true e s d = inr (rw (cell-bare held block marks words n h (eqb-true (getD marks n 0) 0 e)) tt)
         go false e true d = inl (ap (λ (v : ℕ). not (eqb v 0)) (due-is false true e d))
@@ -202,7 +202,7 @@ module _ (columns plan : List ℕ) (drawn : Drawn columns plan) (block : ℕ) (i
           under = λ P p.
               cells-all held block marks words (λ n c. CellBelow (keptFlow held block) c (cellAt P n)) (λ n. tt)
               (λ n h marked.
-              subst (λ (s : Since). CellBelow (keptFlow held block) (holds s) (cellAt P n)) (sym (ap (sinceIn (blocksIn plan) block) (none n h) ∙ word-none (blocksIn plan) block))
+              subst (λ (s : Since). CellBelow (keptFlow held block) (holds s) (cellAt P n)) (sym (ap (sinceIn (columnsOf held) block) (none n h) ∙ word-none (columnsOf held) block))
               (start-below (cellAt P n) (passing-marked P p n (reach .reached n h marked))));
           working = record { due-marked = λ n h d. mark-marked held block marks words n h (begins-marked n h d); brought = begins-brought };
           within = λ m h d. inl (omega arith, h);
@@ -218,3 +218,9 @@ module _ (columns plan : List ℕ) (drawn : Drawn columns plan) (block : ℕ) (i
         reached = λ n h marked. kept-reached held (drawn .sound) (drawn .few-blocks) block inside n .0 (subst (λ (T : List (Cell Since)). Marked (cellAt T n)) (flooded .table) (mark-marked held block marks words n h marked));
         marked = λ n h r. marked-mark held block marks words n h (subst (λ (T : List (Cell Since)). Marked (cellAt T n)) (sym (flooded .table)) (kept-reached held (drawn .sound) (drawn .few-blocks) block inside n .1 r));
       }
+
+pub all-reached : (columns plan : List ℕ) → Drawn columns plan → (chosen sets : List ℕ) → Grouped (blocksIn plan) (groupOf columns chosen sets) → 0 < blocksIn plan → (marks words : List ℕ)
+    → AllFlooded columns plan chosen marks words → MarksReached (planIn columns plan) marks
+all-reached columns plan drawn chosen sets grouped some marks words flooded =
+    let one = first-chosen (blocksIn plan) columns chosen sets some grouped in
+    flooded-reached columns plan drawn (getD chosen 0 0) (one .0) marks words (flooded (getD chosen 0 0) (one .0) (one .1))

@@ -1,5 +1,5 @@
 pub mod Sums
-pub mod Bits
+pub mod Ones
 pub mod States
 pub mod Tables
 pub mod Spans
@@ -8,5 +8,5 @@ pub mod Sending
 pub mod Visiting
 pub mod Sweeping
 pub mod Beginning
-pub mod Places
+pub mod Chosen
 pub mod Told

@@ -22,7 +22,7 @@ use Rattle.flow.specs.Underway.{Underway, Meetable}
 use Rattle.flow.specs.Working.{Sending, DueAfter}
 use Rattle.flow.proofs.Settling.{metAt-underway}
 use Rattle.flow.proofs.Working.{sending-sends}
-use Rattle.ages.specs.Plan.{Plan, Sound}
+use Rattle.ages.specs.Plan.{Plan, Sound, columnsOf}
 use Rattle.kept.specs.Since.{Since}
 use Rattle.kept.specs.Kept.{keptFlow}
 use Rattle.kept.proofs.Lawful.{keptLaws}
@@ -73,7 +73,7 @@ module _ (due : List ℕ) (t : ℕ) where
 -- ---- a word is put
 
 module _ (plan : Plan) (sound : Sound plan) (few : plan .blocks ≤ mostBlocks) (block n : ℕ) (x : Since) (out : ℕ) (small : out < 2 ^ plan .blocks)
-    (steps : sinceIn (plan .blocks) block out ≡ keptFlow plan block .step n x) where
+    (steps : sinceIn (columnsOf plan) block out ≡ keptFlow plan block .step n x) where
   abbrev metTo : Table (keptFlow plan block) → ℕ → Table (keptFlow plan block)
   metTo T t = metAt (keptFlow plan block) T t (keptFlow plan block .step n x)
 

@@ -15,6 +15,8 @@ use Rattle.kept.specs.Kept.{keptFlow, keptTable}
 use Rattle.kept.proofs.Lawful.{keptLaws}
 use Rattle.kept.proofs.Settled.{kept-tightest}
 use Rattle.keeping.specs.declared.span.Span.{Span}
+use Rattle.keeping.specs.Words.{Grouped, Chosen}
+use Rattle.keeping.specs.Columns.{groupOf}
 use Rattle.keeping.specs.Work.{Work, Roomy, spanTo, visited}
 use Rattle.keeping.specs.Flood.{dueIn, Within, Stands, weightOf, Swept, Flooded}
 use Rattle.keeping.proofs.Sending.{tableOf}
@@ -29,11 +31,12 @@ pub record Sweeping (columns plan : List ℕ) (block : ℕ) (before : Work) (n :
   pub lighter : weightOf (nodesIn plan) work ≤ weightOf (nodesIn plan) before
   pub progress : (weightOf (nodesIn plan) work < weightOf (nodesIn plan) before) ⊎ (work .span .high ≤ work .span .low)
 
-module _ (columns plan : List ℕ) (drawn : Drawn columns plan) (block : ℕ) (inside : block < blocksIn plan) (before : Work) (n : ℕ) (work : Work) where
-  pub sweep-turns : Sweeping columns plan block before n work → n < work .span .to → (after : Work) → after ≡ visited columns plan block n work → Sweeping columns plan block before (n + 1) after
+module _ (columns plan : List ℕ) (drawn : Drawn columns plan) (chosen sets : List ℕ) (grouped : Grouped (blocksIn plan) (groupOf columns chosen sets))
+    (block : ℕ) (inside : block < blocksIn plan) (own : Chosen chosen block) (before : Work) (n : ℕ) (work : Work) where
+  pub sweep-turns : Sweeping columns plan block before n work → n < work .span .to → (after : Work) → after ≡ visited (groupOf columns chosen sets) plan n work → Sweeping columns plan block before (n + 1) after
   sweep-turns s ahead after e =
       let node : n < nodesIn plan = omega (arith, s .stands .to-in) in
-      let turned : Turned columns plan block n work after = subst (Turned columns plan block n work) (sym e) (visited-turned columns plan drawn block inside n node work (s .room) (s .stands)) in
+      let turned : Turned columns plan block n work after = subst (Turned columns plan block n work) (sym e) (visited-turned columns plan drawn chosen sets grouped block inside own n node work (s .room) (s .stands)) in
       record {
         room = turned .room;
         stands = turned .stands;
@@ -49,6 +52,7 @@ module _ (columns plan : List ℕ) (drawn : Drawn columns plan) (block : ℕ) (i
       go turned (inr same) (inl less) = inl (omega (arith, turned .lighter))
       go turned (inr same) (inr none) = inr (subst (λ (span : Span). span .high ≤ span .low) (sym same) none)
 
+module _ (columns plan : List ℕ) (block : ℕ) (before : Work) (n : ℕ) (work : Work) where
   pub sweep-ends : Sweeping columns plan block before n work → work .span .to ≤ n → Swept columns plan block before work
   sweep-ends s done =
       record {

@@ -15,7 +15,7 @@ use Rattle.flow.specs.Flow.{Cell, blank, holds, cellAt}
 use Rattle.flow.specs.Pass.{met, metAt}
 use Rattle.flow.specs.Passing.{Marked}
 use Rattle.flow.specs.Laws.{CellReal}
-use Rattle.ages.specs.Plan.{Plan, Sound}
+use Rattle.ages.specs.Plan.{Plan, Sound, columnsOf}
 use Rattle.kept.specs.Since.{Since}
 use Rattle.kept.specs.Kept.{keptFlow}
 use Rattle.kept.proofs.Lawful.{keptLaws}
@@ -35,14 +35,14 @@ module _ (plan : Plan) (block : ℕ) (marks words : List ℕ) where
   pub cell-bare : (n : ℕ) → n < plan .nodes → getD marks n 0 ≡ 0 → cellAt (tableIn plan block marks words) n ≡ blank
   cell-bare n h e = table-at (plan .nodes) state marks n h ∙ (rw (eq-eqb (getD marks n 0) 0 e))
 
-  pub cell-held : (n : ℕ) → n < plan .nodes → (getD marks n 0 ≡ 0 → ⊥) → cellAt (tableIn plan block marks words) n ≡ holds (sinceIn (plan .blocks) block (getD words n 0))
+  pub cell-held : (n : ℕ) → n < plan .nodes → (getD marks n 0 ≡ 0 → ⊥) → cellAt (tableIn plan block marks words) n ≡ holds (sinceIn (columnsOf plan) block (getD words n 0))
   cell-held n h e = table-at (plan .nodes) state marks n h ∙ (rw (ne-eqb (getD marks n 0) 0 e))
 
   pub cell-past : (n : ℕ) → plan .nodes ≤ n → cellAt (tableIn plan block marks words) n ≡ blank
   cell-past = table-past (plan .nodes) state marks
 
   -- What is so of nothing and of the state of each marked node is so of each cell.
-  pub cells-all : (Q : ℕ → Cell Since → Type 0) → ((n : ℕ) → Q n blank) → ((n : ℕ) → n < plan .nodes → (getD marks n 0 ≡ 0 → ⊥) → Q n (holds (sinceIn (plan .blocks) block (getD words n 0))))
+  pub cells-all : (Q : ℕ → Cell Since → Type 0) → ((n : ℕ) → Q n blank) → ((n : ℕ) → n < plan .nodes → (getD marks n 0 ≡ 0 → ⊥) → Q n (holds (sinceIn (columnsOf plan) block (getD words n 0))))
       → (n : ℕ) → Q n (cellAt (tableIn plan block marks words) n)
   cells-all Q none some = table-all (plan .nodes) state marks Q (λ n h. go n h (eqb (getD marks n 0) 0) refl) none
     where
@@ -54,7 +54,7 @@ module _ (plan : Plan) (block : ℕ) (marks words : List ℕ) where
   pub table-real : (sound : Sound plan) → block < plan .blocks → (n : ℕ) → CellReal (keptFlow plan block) (keptLaws plan sound block) n (cellAt (tableIn plan block marks words) n)
   unfolding keptLaws
   table-real sound inside =
-      cells-all (λ n c. CellReal (keptFlow plan block) (keptLaws plan sound block) n c) (λ n. tt) (λ n h e. word-fits (plan .blocks) block (getD words n 0) inside)
+      cells-all (λ n c. CellReal (keptFlow plan block) (keptLaws plan sound block) n c) (λ n. tt) (λ n h e. word-fits (columnsOf plan) block (getD words n 0) inside)
 
   -- A node with a mark is marked, and a marked one has a mark.
   pub mark-marked : (n : ℕ) → n < plan .nodes → (getD marks n 0 ≡ 0 → ⊥) → Marked (cellAt (tableIn plan block marks words) n)
@@ -67,37 +67,37 @@ module _ (plan : Plan) (block : ℕ) (marks words : List ℕ) where
 
   module _ (t : ℕ) (inside : t < plan .nodes) where
     pub table-stored : plan .nodes ≤ length marks → plan .nodes ≤ length words → (word : ℕ)
-        → tableIn plan block (set marks t 1) (set words t word) ≡ set (tableIn plan block marks words) t (holds (sinceIn (plan .blocks) block word))
+        → tableIn plan block (set marks t 1) (set words t word) ≡ set (tableIn plan block marks words) t (holds (sinceIn (columnsOf plan) block word))
     table-stored room wide word =
-        listOf-at (plan .nodes) (cellIn (wordState plan block (set words t word)) (set marks t 1)) (set (tableIn plan block marks words) t (holds (sinceIn (plan .blocks) block word))) blank
-        (length-set (tableIn plan block marks words) t (holds (sinceIn (plan .blocks) block word)) ∙ table-long) (λ n h. go n h (ℕ-discrete n t))
+        listOf-at (plan .nodes) (cellIn (wordState plan block (set words t word)) (set marks t 1)) (set (tableIn plan block marks words) t (holds (sinceIn (columnsOf plan) block word))) blank
+        (length-set (tableIn plan block marks words) t (holds (sinceIn (columnsOf plan) block word)) ∙ table-long) (λ n h. go n h (ℕ-discrete n t))
       where
-        go : (n : ℕ) → n < plan .nodes → Dec (n ≡ t) → cellIn (wordState plan block (set words t word)) (set marks t 1) n ≡ cellAt (set (tableIn plan block marks words) t (holds (sinceIn (plan .blocks) block word))) n
+        go : (n : ℕ) → n < plan .nodes → Dec (n ≡ t) → cellIn (wordState plan block (set words t word)) (set marks t 1) n ≡ cellAt (set (tableIn plan block marks words) t (holds (sinceIn (columnsOf plan) block word))) n
         go n h (yes e) =
             let there : t < length (tableIn plan block marks words) = omega (arith, table-long) in
-            rw (e, getD-set-same marks t 1 0 (omega arith), getD-set-same words t word 0 (omega arith), getD-set-same (tableIn plan block marks words) t (holds (sinceIn (plan .blocks) block word)) blank there)
+            rw (e, getD-set-same marks t 1 0 (omega arith), getD-set-same words t word 0 (omega arith), getD-set-same (tableIn plan block marks words) t (holds (sinceIn (columnsOf plan) block word)) blank there)
         go n h (no e) =
-            rw (getD-set-other marks t n 1 0 e, getD-set-other words t n word 0 e, getD-set-other (tableIn plan block marks words) t n (holds (sinceIn (plan .blocks) block word)) blank e)
+            rw (getD-set-other marks t n 1 0 e, getD-set-other words t n word 0 e, getD-set-other (tableIn plan block marks words) t n (holds (sinceIn (columnsOf plan) block word)) blank e)
             (sym (table-at (plan .nodes) state marks n h))
 
     -- What a cell holds when a word has come to it.
     pub cell-met : (getD marks t 0 ≡ 0 → getD words t 0 ≡ 0) → (out : ℕ)
-        → met (keptFlow plan block) (cellAt (tableIn plan block marks words) t) (sinceIn (plan .blocks) block out) ≡ holds (sinceIn (plan .blocks) block (bitOr (getD words t 0) out))
+        → met (keptFlow plan block) (cellAt (tableIn plan block marks words) t) (sinceIn (columnsOf plan) block out) ≡ holds (sinceIn (columnsOf plan) block (bitOr (getD words t 0) out))
     unfolding met
     cell-met bare out = go (eqb (getD marks t 0) 0) refl
       where
         go : (b : Bool) → eqb (getD marks t 0) 0 ≡ b
-            → met (keptFlow plan block) (cellAt (tableIn plan block marks words) t) (sinceIn (plan .blocks) block out) ≡ holds (sinceIn (plan .blocks) block (bitOr (getD words t 0) out))
+            → met (keptFlow plan block) (cellAt (tableIn plan block marks words) t) (sinceIn (columnsOf plan) block out) ≡ holds (sinceIn (columnsOf plan) block (bitOr (getD words t 0) out))
         go true e =
             let none = eqb-true (getD marks t 0) 0 e in
             rw (cell-bare t inside none, bare none)
         go false e =
             rw (cell-held t inside (eqb-false (getD marks t 0) 0 e))
-            (ap holds (sym (word-meets (plan .blocks) block (getD words t 0) out)))
+            (ap holds (sym (word-meets (columnsOf plan) block (getD words t 0) out)))
 
     -- A word that comes to a node, stored: the table met by its state.
     pub table-met : plan .nodes ≤ length marks → plan .nodes ≤ length words → (getD marks t 0 ≡ 0 → getD words t 0 ≡ 0) → (out : ℕ)
-        → tableIn plan block (set marks t 1) (set words t (bitOr (getD words t 0) out)) ≡ metAt (keptFlow plan block) (tableIn plan block marks words) t (sinceIn (plan .blocks) block out)
+        → tableIn plan block (set marks t 1) (set words t (bitOr (getD words t 0) out)) ≡ metAt (keptFlow plan block) (tableIn plan block marks words) t (sinceIn (columnsOf plan) block out)
     unfolding metAt
     table-met room wide bare out =
         table-stored room wide (bitOr (getD words t 0) out)
@@ -105,9 +105,9 @@ module _ (plan : Plan) (block : ℕ) (marks words : List ℕ) where
 
     -- And one that brings nothing new leaves the table.
     pub table-same : (getD marks t 0 ≡ 0 → ⊥) → (out : ℕ) → bitOr (getD words t 0) out ≡ getD words t 0
-        → metAt (keptFlow plan block) (tableIn plan block marks words) t (sinceIn (plan .blocks) block out) ≡ tableIn plan block marks words
+        → metAt (keptFlow plan block) (tableIn plan block marks words) t (sinceIn (columnsOf plan) block out) ≡ tableIn plan block marks words
     unfolding metAt
     table-same marked out e =
         ap (set (tableIn plan block marks words) t)
-        (cell-met (λ none. absurd (marked none)) out ∙ ap (λ (w : ℕ). holds (sinceIn (plan .blocks) block w)) e ∙ sym (cell-held t inside marked))
+        (cell-met (λ none. absurd (marked none)) out ∙ ap (λ (w : ℕ). holds (sinceIn (columnsOf plan) block w)) e ∙ sym (cell-held t inside marked))
         ∙ set-getD (tableIn plan block marks words) t blank

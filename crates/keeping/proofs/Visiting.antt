@@ -24,7 +24,8 @@ use Rattle.kept.specs.Since.{Since}
 use Rattle.kept.specs.Kept.{afterTouchOf, keptFlow}
 use Rattle.kept.proofs.Lawful.{keptLaws}
 use Rattle.keeping.specs.declared.span.Span.{Span}
-use Rattle.keeping.specs.Words.{sinceIn, wordAfter}
+use Rattle.keeping.specs.Words.{Group, Grouped, Chosen, sinceIn, wordAfter}
+use Rattle.keeping.specs.Columns.{groupOf}
 use Rattle.keeping.specs.Work.{Work, Roomy, sentAll, cleared, visited}
 use Rattle.keeping.specs.Flood.{dueIn, Within, Stands, weightOf}
 use Rattle.keeping.proofs.States.{words-touch, words-small}
@@ -40,8 +41,22 @@ pub record Turned (columns plan : List ℕ) (block n : ℕ) (before after : Work
   pub progress : (weightOf (nodesIn plan) after < weightOf (nodesIn plan) before) ⊎ (after .span ≡ before .span)
 
 module _ (columns plan : List ℕ) (drawn : Drawn columns plan) (block : ℕ) (inside : block < blocksIn plan) where
+  pub stands-underway : (n : ℕ) (work : Work) → Stands (planIn columns plan) block n work → Underway (keptFlow (planIn columns plan) block) (keptLaws (planIn columns plan) (drawn .sound) block) (tableOf (planIn columns plan) block work)
+  stands-underway n work s =
+      record {
+        long = table-long (planIn columns plan) block (work .marks) (work .words);
+        fine = table-real (planIn columns plan) block (work .marks) (work .words) (drawn .sound) inside;
+        begun = s .begun;
+        under = s .under;
+      }
+
+module _ (columns plan : List ℕ) (drawn : Drawn columns plan) (chosen sets : List ℕ) (grouped : Grouped (blocksIn plan) (groupOf columns chosen sets))
+    (block : ℕ) (inside : block < blocksIn plan) (own : Chosen chosen block) where
   abbrev held : Plan
   held = planIn columns plan
+
+  abbrev group : Group
+  group = groupOf columns chosen sets
 
   -- ---- the word after a node's record
 
@@ -49,27 +64,18 @@ module _ (columns plan : List ℕ) (drawn : Drawn columns plan) (block : ℕ) (i
     touch-in : (touch : ColumnTouch) → Among touch (touchesBy (nodeIn plan n .what)) → touch .column < blocksIn plan
     touch-in touch i = drawn .sound .columns-in n node touch (subst (Among touch) (sym (touches-held columns plan n node)) i)
 
-    pub step-held : sinceIn (blocksIn plan) block (wordAfter columns block (nodeIn plan n .what) word) ≡ keptFlow (planIn columns plan) block .step n (sinceIn (blocksIn plan) block word)
+    pub step-held : sinceIn (columnsOf (planIn columns plan)) block (wordAfter (groupOf columns chosen sets) (nodeIn plan n .what) word) ≡ keptFlow (planIn columns plan) block .step n (sinceIn (columnsOf (planIn columns plan)) block word)
     unfolding wordAfter
     step-held =
-        words-touch columns (columnsOf held) (key-held columns plan) block inside (touchesBy (nodeIn plan n .what)) touch-in word
-        ∙ ap (λ (touches : List ColumnTouch). inTurn (afterTouchOf held block) touches (sinceIn (blocksIn plan) block word)) (sym (touches-held columns plan n node))
+        words-touch group (columnsOf held) (key-held columns plan) grouped block inside own (touchesBy (nodeIn plan n .what)) touch-in word
+        ∙ ap (λ (touches : List ColumnTouch). inTurn (afterTouchOf held block) touches (sinceIn (columnsOf held) block word)) (sym (touches-held columns plan n node))
 
-    pub step-small : word < 2 ^ blocksIn plan → wordAfter columns block (nodeIn plan n .what) word < 2 ^ blocksIn plan
+    pub step-small : word < 2 ^ blocksIn plan → wordAfter (groupOf columns chosen sets) (nodeIn plan n .what) word < 2 ^ blocksIn plan
     unfolding wordAfter
     step-small small =
-        words-small columns (columnsOf held) (key-held columns plan) block inside (touchesBy (nodeIn plan n .what)) touch-in word small
+        words-small group (columnsOf held) (key-held columns plan) grouped block inside own (touchesBy (nodeIn plan n .what)) touch-in word small
 
   -- ---- before and after a turn
-
-  pub stands-underway : (n : ℕ) (work : Work) → Stands (planIn columns plan) block n work → Underway (keptFlow (planIn columns plan) block) (keptLaws (planIn columns plan) (drawn .sound) block) (tableOf (planIn columns plan) block work)
-  stands-underway n work s =
-      record {
-        long = table-long held block (work .marks) (work .words);
-        fine = table-real held block (work .marks) (work .words) (drawn .sound) inside;
-        begun = s .begun;
-        under = s .under;
-      }
 
   within-next : (n : ℕ) (span : Span) (m : ℕ) → (m ≡ n → ⊥) → Within n span m → Within (suc n) span m
   within-next n span m apart (inl h) =
@@ -102,17 +108,17 @@ module _ (columns plan : List ℕ) (drawn : Drawn columns plan) (block : ℕ) (i
     cleared-due : (m : ℕ) → dueIn (set (work .due) n 0) m ≡ true → dueIn (work .due) m ≡ true
     cleared-due m d = sym (due-stored (work .due) n 0 m (cleared-apart m d)) ∙ d
 
-    cell-is : dueIn (work .due) n ≡ true → cellAt (tableOf held block work) n ≡ holds (sinceIn (blocksIn plan) block (getD (work .words) n 0))
+    cell-is : dueIn (work .due) n ≡ true → cellAt (tableOf held block work) n ≡ holds (sinceIn (columnsOf held) block (getD (work .words) n 0))
     cell-is d = cell-held held block (work .marks) (work .words) n node (marked-mark held block (work .marks) (work .words) n node (s .working .due-marked n node d))
 
-    begins : dueIn (work .due) n ≡ true → Sent held (drawn .sound) block n (sinceIn (blocksIn plan) block (getD (work .words) n 0)) (arrowsIn held n) (cleared n work)
+    begins : dueIn (work .due) n ≡ true → Sent held (drawn .sound) block n (sinceIn (columnsOf held) block (getD (work .words) n 0)) (arrowsIn held n) (cleared n work)
     begins d =
         record {
           room = record { marks-room = room .marks-room; words-room = room .words-room; due-room = omega (arith, room .due-room, length-set (work .due) n 0) };
           fits = s .fits;
-          underway = stands-underway n work s;
+          underway = stands-underway columns plan drawn block inside n work s;
           sending =
-              sending-begins (keptFlow held block) (tableOf held block work) (dueIn (work .due)) (dueIn (set (work .due) n 0)) n (sinceIn (blocksIn plan) block (getD (work .words) n 0)) (cell-is d) (s .working) cleared-due
+              sending-begins (keptFlow held block) (tableOf held block work) (dueIn (work .due)) (dueIn (set (work .due) n 0)) n (sinceIn (columnsOf held) block (getD (work .words) n 0)) (cell-is d) (s .working) cleared-due
               (λ m q e. due-stored (work .due) n 0 m q ∙ e);
           within = λ m h e. within-next n (work .span) m (cleared-apart m e) (s .within m h (cleared-due m e));
           to-in = s .to-in;
@@ -120,22 +126,22 @@ module _ (columns plan : List ℕ) (drawn : Drawn columns plan) (block : ℕ) (i
         }
 
     -- A node that is due sends its word.
-    takes : dueIn (work .due) n ≡ true → Sent held (drawn .sound) block n (sinceIn (blocksIn plan) block (getD (work .words) n 0)) [] (sentAll n (wordAfter columns block (nodeIn plan n .what) (getD (work .words) n 0)) (arrowsOf (nodeIn plan n .targets)) (cleared n work))
-        × (weightOf (nodesIn plan) (sentAll n (wordAfter columns block (nodeIn plan n .what) (getD (work .words) n 0)) (arrowsOf (nodeIn plan n .targets)) (cleared n work)) ≤ weightOf (nodesIn plan) (cleared n work))
+    takes : dueIn (work .due) n ≡ true → Sent held (drawn .sound) block n (sinceIn (columnsOf held) block (getD (work .words) n 0)) [] (sentAll n (wordAfter group (nodeIn plan n .what) (getD (work .words) n 0)) (arrowsOf (nodeIn plan n .targets)) (cleared n work))
+        × (weightOf (nodesIn plan) (sentAll n (wordAfter group (nodeIn plan n .what) (getD (work .words) n 0)) (arrowsOf (nodeIn plan n .targets)) (cleared n work)) ≤ weightOf (nodesIn plan) (cleared n work))
     takes d =
         let word = getD (work .words) n 0 in
         let arrows = arrows-held columns plan n node in
-        all-sent held (drawn .sound) (drawn .few-blocks) block n (sinceIn (blocksIn plan) block word) (wordAfter columns block (nodeIn plan n .what) word) (step-small n node word (s .fits .small n node)) (step-held n node word) (arrowsOf (nodeIn plan n .targets)) (cleared n work)
-        (subst (λ (ts : List ℕ). Sent held (drawn .sound) block n (sinceIn (blocksIn plan) block word) ts (cleared n work)) arrows (begins d))
+        all-sent held (drawn .sound) (drawn .few-blocks) block n (sinceIn (columnsOf held) block word) (wordAfter group (nodeIn plan n .what) word) (step-small n node word (s .fits .small n node)) (step-held n node word) (arrowsOf (nodeIn plan n .targets)) (cleared n work)
+        (subst (λ (ts : List ℕ). Sent held (drawn .sound) block n (sinceIn (columnsOf held) block word) ts (cleared n work)) arrows (begins d))
         (λ t i. drawn .sound .arrows-in n t node (subst (Among t) (sym arrows) i))
-        (λ t i. step-meetable (keptFlow held block) (keptLaws held (drawn .sound) block) (tableOf held block work) n (sinceIn (blocksIn plan) block word) (stands-underway n work s) (cell-is d) t (subst (Among t) (sym arrows) i))
+        (λ t i. step-meetable (keptFlow held block) (keptLaws held (drawn .sound) block) (tableOf held block work) n (sinceIn (columnsOf held) block word) (stands-underway columns plan drawn block inside n work s) (cell-is d) t (subst (Among t) (sym arrows) i))
 
     -- A turn of node n.
-    pub visited-turned : Turned columns plan block n work (visited columns plan block n work)
+    pub visited-turned : Turned columns plan block n work (visited (groupOf columns chosen sets) plan n work)
     unfolding visited
     visited-turned = go (eqb (getD (work .due) n 0) 0) refl
       where
-        go : (b : Bool) → eqb (getD (work .due) n 0) 0 ≡ b → Turned columns plan block n work (visited columns plan block n work)
+        go : (b : Bool) → eqb (getD (work .due) n 0) 0 ≡ b → Turned columns plan block n work (visited group plan n work)
         go true e =
             let idle : dueIn (work .due) n ≡ false = ap not e in
             let stands : Stands held block (suc n) work = record {
@@ -154,7 +160,7 @@ module _ (columns plan : List ℕ) (drawn : Drawn columns plan) (block : ℕ) (i
             rw e
             (record {
               room = sent .0 .room;
-              stands = rw add-one (all-stands n (sinceIn (blocksIn plan) block (getD (work .words) n 0)) _ (sent .0));
+              stands = rw add-one (all-stands n (sinceIn (columnsOf held) block (getD (work .words) n 0)) _ (sent .0));
               lighter = omega (arith, sent .1);
               progress = inl (omega (arith, sent .1));
             })

@@ -11,7 +11,7 @@ use lib.ListN.{getD, set}
 use lib.Seq.{getD-set-same, getD-set-other}
 use Rattle.keeping.specs.Work.{Work, Roomy, changesAt, cleared, spanWith}
 use Rattle.keeping.specs.Flood.{weightAt, weightOf}
-use Rattle.keeping.proofs.Bits.{or-grows}
+use Rattle.bits.proofs.Bits.{or-grows}
 use Rattle.keeping.proofs.Sums.{sum-but-one}
 
 module _ (nodes : ℕ) (work : Work) (room : Roomy nodes (work .marks) (work .words) (work .due)) where

@@ -1,4 +1,4 @@
--- The table that marks and words hold, what is so while nodes are taken that are due, and what is so when none is.
+-- The table of each block that marks and words hold, what is so while nodes are taken that are due, and what is so when none is.
 -- Nothing here is a rule of the tool: laws and contracts of inner functions speak of it.
 use Prim.Native.Nat.{ℕ, _+_, _-_, _^_, _≤_, _<_}
 use mathlib.Core.Bool.{Bool, true, cond, not}
@@ -14,17 +14,17 @@ use Rattle.flow.specs.Flow.{Cell, holds, cellAt}
 use Rattle.flow.specs.Passing.{CellBelow, Passing, Under}
 use Rattle.flow.specs.Working.{Working}
 use Rattle.layout.specs.Rows.{tableBy}
-use Rattle.ages.specs.Plan.{Plan}
-use Rattle.plan.specs.Listed.{nodesIn, planIn}
+use Rattle.ages.specs.Plan.{Plan, columnsOf}
+use Rattle.plan.specs.Listed.{nodesIn, blocksIn, planIn}
 use Rattle.kept.specs.Since.{Since}
 use Rattle.kept.specs.Kept.{keptFlow, keptTable}
 use Rattle.keeping.specs.declared.span.Span.{Span}
-use Rattle.keeping.specs.Words.{sinceIn}
+use Rattle.keeping.specs.Words.{sinceIn, EachChosen}
 use Rattle.keeping.specs.Work.{Work}
 
 -- The state that the word of a node holds, and the table of these: nothing where a mark is 0, as in every table that is read off lists (`layout`).
 abbrev pub wordState : Plan → ℕ → List ℕ → ℕ → Since
-wordState plan block words n = sinceIn (plan .blocks) block (getD words n 0)
+wordState plan block words n = sinceIn (columnsOf plan) block (getD words n 0)
 
 abbrev pub tableIn : Plan → ℕ → List ℕ → List ℕ → List (Cell Since)
 tableIn plan block marks words = tableBy (plan .nodes) (wordState plan block words) marks
@@ -65,14 +65,27 @@ pub record Swept (columns plan : List ℕ) (block : ℕ) (before after : Work) :
   pub lighter : weightOf (nodesIn plan) after ≤ weightOf (nodesIn plan) before
   pub progress : (weightOf (nodesIn plan) after < weightOf (nodesIn plan) before) ⊎ (after .span .high ≤ after .span .low)
 
--- When no node is due: the table is the tightest.
+-- When no node is due: the table of each block is the tightest.
 pub record Flooded (plan : Plan) (block : ℕ) (marks words : List ℕ) : Type 0 where
   pub fits : WordsFit plan marks words
   pub table : tableIn plan block marks words ≡ keptTable plan block
 
--- The same of slices, as a `requires` and an `ensures` name them.
-abbrev pub StandsIn : Passed → Passed → ℕ → ℕ → Work → Type 0
-StandsIn columns plan block n work = Stands (planIn (now columns) (now plan)) block n work
+-- The same of each block that shares the words; of slices, as a `requires` and an `ensures` name them.
+abbrev pub AllStand : List ℕ → List ℕ → List ℕ → ℕ → Work → Type 0
+AllStand columns plan chosen n work = EachChosen chosen (blocksIn plan) (λ block. Stands (planIn columns plan) block n work)
 
-abbrev pub FloodedIn : Plan → ℕ → Slice → Slice → Type 0
-FloodedIn plan block marks words = Flooded plan block (now (marks .exit)) (now (words .exit))
+abbrev pub AllSwept : List ℕ → List ℕ → List ℕ → Work → Work → Type 0
+AllSwept columns plan chosen before after = EachChosen chosen (blocksIn plan) (λ block. Swept columns plan block before after)
+
+abbrev pub AllFlooded : List ℕ → List ℕ → List ℕ → List ℕ → List ℕ → Type 0
+AllFlooded columns plan chosen marks words = EachChosen chosen (blocksIn plan) (λ block. Flooded (planIn columns plan) block marks words)
+
+abbrev pub StandIn : Passed → Passed → Passed → ℕ → Work → Type 0
+StandIn columns plan chosen n work = AllStand (now columns) (now plan) (now chosen) n work
+
+abbrev pub SweptTo : Slice → Slice → Slice → Work → Work → Type 0
+SweptTo columns plan chosen before after = AllSwept (now (columns .entry)) (now (plan .entry)) (now (chosen .entry)) before after
+
+abbrev pub FloodedIn : Slice → Slice → Slice → Slice → Slice → Type 0
+FloodedIn columns plan chosen marks words =
+    AllFlooded (now (columns .entry)) (now (plan .entry)) (now (chosen .entry)) (now (marks .exit)) (now (words .exit))

@@ -1,7 +1,8 @@
 pub mod Words
+pub mod Columns
 pub mod Work
 pub mod Flood
-pub mod Columns
 pub mod Starting
 pub mod Telling
+pub mod Choosing
 pub mod Told

@@ -1,7 +1,7 @@
--- What a block's words are worked out from: lists with nothing in them, or marks on the nodes that walks reach, of which those are due that touch the block.
--- Nothing here is a rule of the tool: contracts of inner functions and laws speak of it.
+-- What words are worked out from: lists with nothing in them, or marks on the nodes that walks reach, of which those are due that touch one of the
+-- blocks. Nothing here is a rule of the tool: contracts of inner functions and laws speak of it.
 use Prim.Native.Nat.{ℕ, _<_}
-use mathlib.Core.Bool.{cond, not, _&&_, _||_}
+use mathlib.Core.Bool.{cond, not, _&&_}
 use mathlib.Core.List.{List}
 use mathlib.Core.Path.{_≡_}
 use denote.Ref.{now}
@@ -11,7 +11,9 @@ use Rattle.lists.specs.Loops.{patch}
 use Rattle.lists.specs.Slices.{Passed}
 use Rattle.flow.specs.Walk.{Reached}
 use Rattle.ages.specs.Plan.{Plan, arrowsIn}
-use Rattle.plan.specs.Listed.{planIn}
+use Rattle.plan.specs.declared.PlannedRecord.{PlannedRecord}
+use Rattle.plan.specs.Listed.{nodeIn, planIn}
+use Rattle.keeping.specs.Words.{touchesChosen}
 
 -- The nodes that have a mark are those that walks reach.
 pub record MarksReached (plan : Plan) (marks : List ℕ) : Type 0 where
@@ -24,13 +26,12 @@ pub record Zeros (nodes : ℕ) (marks words due : List ℕ) : Type 0 where
   pub words-zero : (n : ℕ) → n < nodes → getD words n 0 ≡ 0
   pub due-zero : (n : ℕ) → n < nodes → getD due n 0 ≡ 0
 
--- A node is due that is marked and touches the block.
-unfoldable pub dueBy : ℕ → ℕ → ℕ → ℕ → ℕ
-dueBy mark lower upper block = cond (not (eqb mark 0) && (eqb lower block || eqb upper block)) 1 0
+-- A node is due that is marked and touches one of the blocks.
+unfoldable pub dueBy : List ℕ → ℕ → PlannedRecord → ℕ
+dueBy chosen mark planned = cond (not (eqb mark 0) && touchesChosen chosen planned) 1 0
 
-abbrev pub dueAll : List ℕ → List ℕ → List ℕ → ℕ → ℕ → List ℕ → List ℕ
-dueAll marks lowers uppers block nodes due =
-    patch due 0 nodes (λ n. dueBy (getD marks n 0) (getD lowers n 0) (getD uppers n 0) block)
+abbrev pub dueAll : List ℕ → List ℕ → List ℕ → ℕ → List ℕ → List ℕ
+dueAll plan chosen marks nodes due = patch due 0 nodes (λ n. dueBy chosen (getD marks n 0) (nodeIn plan n .what))
 
 -- The same of slices, as a `requires` names them.
 abbrev pub ReachedIn : Passed → Passed → Passed → Type 0

@@ -1,4 +1,4 @@
--- What is worked on while the words of one block are sent along arrows: marks, words, which nodes are due, and where those stand; a word sent, and a node
+-- What is worked on while words are sent along arrows: marks, words, which nodes are due, and where those stand; a word sent, and a node
 -- taken. Rules 16.3 to 16.5, of words; nothing else here is a rule of the tool. Laws hold it to the tables of `flow`.
 use Prim.Native.Nat.{ℕ, _+_, _≤_, max, min}
 use mathlib.Core.Bool.{Bool, cond, not, _||_}
@@ -12,7 +12,7 @@ use Rattle.chart.specs.Geometry.{mostNodes}
 use Rattle.chart.specs.Record.{arrowsOf}
 use Rattle.plan.specs.Listed.{nodeIn}
 use Rattle.keeping.specs.declared.span.Span.{Span}
-use Rattle.keeping.specs.Words.{wordAfter}
+use Rattle.keeping.specs.Words.{Group, wordAfter}
 
 pub record Work : Type 0 where
   pub marks : List ℕ
@@ -56,10 +56,10 @@ abbrev pub cleared : ℕ → Work → Work
 cleared n work = record { marks = work .marks; words = work .words; due = set (work .due) n 0; span = work .span }
 
 -- Rules 16.3 and 16.4: node n is taken, if it is due.
-unfoldable pub visited : List ℕ → List ℕ → ℕ → ℕ → Work → Work
-visited columns plan block n work =
+unfoldable pub visited : Group → List ℕ → ℕ → Work → Work
+visited group plan n work =
     cond (eqb (getD (work .due) n 0) 0) work
-    (sentAll n (wordAfter columns block (nodeIn plan n .what) (getD (work .words) n 0)) (arrowsOf (nodeIn plan n .targets)) (cleared n work))
+    (sentAll n (wordAfter group (nodeIn plan n .what) (getD (work .words) n 0)) (arrowsOf (nodeIn plan n .targets)) (cleared n work))
 
 -- There is room for so many nodes.
 pub record Roomy (nodes : ℕ) (marks words due : List ℕ) : Type 0 where

@@ -1,10 +1,12 @@
-// Sends the words of one block along arrows until nothing changes. A node is due if what it sends is not known to have arrived; only such nodes are
-// taken. Callers keep that the lists have room for the nodes and hold a table of the plan. Nothing is written past the nodes. Nothing is refused here.
+// Sends words along arrows until nothing changes. A node is due if what it sends is not known to have arrived; only such nodes are
+// taken. Callers keep that the lists have room for the nodes and hold tables of the blocks that share words. Nothing is written past the nodes. Nothing is refused
+// here.
 ghost use mathlib.Core.Path.{_≡_};
 ghost use Prim.Native.Nat.{_<_};
-ghost use Rattle.plan.specs.Listed.{nodesIn, blocksIn, DrawnIn, planAt};
+ghost use Rattle.plan.specs.Listed.{nodesIn, blocksIn, DrawnIn};
+ghost use Rattle.keeping.specs.Columns.{GroupIn, groupAt};
 ghost use Rattle.keeping.specs.Work.{spanTo, visited, RoomFor, workIn, workBefore, workAfter};
-ghost use Rattle.keeping.specs.Flood.{StandsIn, Swept, FloodedIn};
+ghost use Rattle.keeping.specs.Flood.{StandIn, SweptTo, FloodedIn};
 use crate::putting::send_word;
 use crate::span::Span;
 use crate::words::step_word;
@@ -14,17 +16,19 @@ use chart::Geometry;
 fn visit(
     columns: &[u8],
     plan: &[u16],
+    chosen: &[u8],
+    sets: &[u64],
     marks: &mut [u8],
     words: &mut [u64],
     due: &mut [u8],
-    block: usize,
     n: usize,
     span: Span,
 ) -> Span
     requires { ⌜ DrawnIn columns plan ⌝ }
     requires { ⌜ RoomFor (nodesIn (now plan)) marks words due ⌝ }
-    requires { ⌜ (block < blocksIn (now plan)) × (n < nodesIn (now plan)) ⌝ }
-    ensures { λ r. ⌜ workAfter marks words due r ≡ visited (now (columns .entry)) (now (plan .entry)) block n (workBefore marks words due span) ⌝ }
+    requires { ⌜ GroupIn columns plan chosen sets ⌝ }
+    requires { ⌜ n < nodesIn (now plan) ⌝ }
+    ensures { λ r. ⌜ workAfter marks words due r ≡ visited (groupAt columns chosen sets) (now (plan .entry)) n (workBefore marks words due span) ⌝ }
 {
     if due[n] == 0 {
         return span;
@@ -35,7 +39,7 @@ fn visit(
     let planned = node.what;
     let targets = node.targets;
     let word = words[n];
-    let out = step_word(columns, planned, word, block);
+    let out = step_word(columns, chosen, sets, planned, word);
     send_word(marks, words, due, span, n, nodes, targets, out)
 }
 
@@ -43,18 +47,19 @@ fn visit(
 fn sweep(
     columns: &[u8],
     plan: &[u16],
+    chosen: &[u8],
+    sets: &[u64],
     marks: &mut [u8],
     words: &mut [u64],
     due: &mut [u8],
-    block: usize,
     from: usize,
     to: usize,
 ) -> Span
     requires { ⌜ DrawnIn columns plan ⌝ }
     requires { ⌜ RoomFor (nodesIn (now plan)) marks words due ⌝ }
-    requires { ⌜ block < blocksIn (now plan) ⌝ }
-    requires { ⌜ StandsIn columns plan block from (workIn marks words due (spanTo to)) ⌝ }
-    ensures { λ r. ⌜ Swept (now (columns .entry)) (now (plan .entry)) block (workBefore marks words due (spanTo to)) (workAfter marks words due r) ⌝ }
+    requires { ⌜ GroupIn columns plan chosen sets × (0 < blocksIn (now plan)) ⌝ }
+    requires { ⌜ StandIn columns plan chosen from (workIn marks words due (spanTo to)) ⌝ }
+    ensures { λ r. ⌜ SweptTo columns plan chosen (workBefore marks words due (spanTo to)) (workAfter marks words due r) ⌝ }
 {
     let mut span = Span {
         to: to,
@@ -63,33 +68,34 @@ fn sweep(
     };
     let mut n = from;
     while n < span.to {
-        span = visit(columns, plan, marks, words, due, block, n, span);
+        span = visit(columns, plan, chosen, sets, marks, words, due, n, span);
         n += 1;
     }
     span
 }
 
-// Takes nodes until none is due, where all that are stand from `from` to before `to`: then the words are those of the tightest table (rule 16.6).
+// Takes nodes until none is due, where all that are stand from `from` to before `to`: then they hold the tightest table of each block (rule 16.6).
 pub(crate) fn flood(
     columns: &[u8],
     plan: &[u16],
+    chosen: &[u8],
+    sets: &[u64],
     marks: &mut [u8],
     words: &mut [u64],
     due: &mut [u8],
-    block: usize,
     from: usize,
     to: usize,
 )
     requires { ⌜ DrawnIn columns plan ⌝ }
     requires { ⌜ RoomFor (nodesIn (now plan)) marks words due ⌝ }
-    requires { ⌜ block < blocksIn (now plan) ⌝ }
-    requires { ⌜ StandsIn columns plan block from (workIn marks words due (spanTo to)) ⌝ }
-    ensures { λ r. ⌜ FloodedIn (planAt columns plan) block marks words ⌝ }
+    requires { ⌜ GroupIn columns plan chosen sets × (0 < blocksIn (now plan)) ⌝ }
+    requires { ⌜ StandIn columns plan chosen from (workIn marks words due (spanTo to)) ⌝ }
+    ensures { λ r. ⌜ FloodedIn columns plan chosen marks words ⌝ }
 {
     let mut low = from;
     let mut high = to;
     while low < high {
-        let span = sweep(columns, plan, marks, words, due, block, low, high);
+        let span = sweep(columns, plan, chosen, sets, marks, words, due, low, high);
         low = span.low;
         high = span.high;
     }

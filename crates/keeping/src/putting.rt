@@ -1,4 +1,4 @@
-// Joins the word of a block into those of targets. Callers keep that the lists have room for the nodes and that arrows lead to nodes. Nothing is
+// Joins a word into those of targets. Callers keep that the lists have room for the nodes and that arrows lead to nodes. Nothing is
 // refused here.
 ghost use mathlib.Core.Path.{_≡_};
 ghost use Prim.Native.Nat.{_<_};

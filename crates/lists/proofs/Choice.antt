@@ -25,6 +25,14 @@ pub and-last : (a : Bool) → (a && true) ≡ a
 and-last true = refl
 and-last false = refl
 
+pub or-last : (a : Bool) → (a || false) ≡ a
+or-last true = refl
+or-last false = refl
+
+pub or-always : (a : Bool) → (a || true) ≡ true
+or-always true = refl
+or-always false = refl
+
 pub or-false : (a b : Bool) → (a || b) ≡ false → (a ≡ false) × (b ≡ false)
 or-false true b e = let z : _≡_ {A = ℕ} 0 1 = cc in absurd (omega arith)
 or-false false b e = (refl, e)

@@ -8,3 +8,4 @@ pub mod Joined
 pub mod Same
 pub mod Firsts
 pub mod Telling
+pub mod Shifts

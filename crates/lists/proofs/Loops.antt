@@ -1,5 +1,5 @@
 -- Laws of `patch`, `any` and `every`: a turn of a loop, and what the loop has made when it ends.
-use mathlib.Core.Bool.{Bool, true, false, cond, _&&_, _||_, true≢false}
+use mathlib.Core.Bool.{Bool, true, false, _&&_, _||_, true≢false}
 use mathlib.Core.List.{List, [], _∷_, _++_, append-assoc, append-nil}
 use mathlib.Core.Logic.{⊎-elim}
 use mathlib.Core.Path.{_≡_, refl, sym, ap, _∙_}
@@ -9,9 +9,7 @@ use native.Mathlib.Nat.{zero-add, add-zero, add-assoc, add-suc, eq-or-lt-of-le, 
 use native.Mathlib.Decide.{ℕ-discrete}
 use native.Mathlib.Omega.{arith}
 use lib.ListN.{length, getD, set, take, drop, length-set, length-append, take-append-drop, drop-of-length-le}
-use lib.Seq.{getD-set-same, getD-set-other, length-take-le, drop-cons, set-at, set-set, set-comm}
-use lib.Dec.{eqb}
-use borrow.Author.Tests.{eq-eqb, ne-eqb}
+use lib.Seq.{getD-set-same, getD-set-other, length-take-le, drop-cons, set-at}
 use Rattle.lists.specs.Choice.{every}
 use Rattle.lists.specs.Lists.{listOf, written}
 use Rattle.lists.specs.Loops.{patch, any}
@@ -158,29 +156,3 @@ patch-same l base (suc n) f g h =
     let here : f n ≡ g n = h n (omega arith) in
     let rest : patch l base n f ≡ patch l base n g = patch-same l base n f g (λ j k. h j (omega arith)) in
     rw (here, rest)
-
--- A store over one of the places that the loop has passed.
-pub patch-but : (l : List ℕ) (n : ℕ) (f : ℕ → ℕ) (m v : ℕ) → m < n → set (patch l 0 n f) m v ≡ patch l 0 n (λ j. cond (eqb j m) v (f j))
-patch-but l zero f m v h = absurd (omega arith)
-patch-but l (suc n) f m v h = ⊎-elim last (earlier (patch-but l n f m v)) (eq-or-lt-of-le (le-of-suc-le-suc h))
-  where
-    but : ℕ → ℕ
-    but j = cond (eqb j m) v (f j)
-
-    place : 0 + n ≡ n
-    place = zero-add n
-
-    last : m ≡ n → set (set (patch l 0 n f) (0 + n) (f n)) m v ≡ set (patch l 0 n but) (0 + n) (but n)
-    last e =
-        let same : patch l 0 n f ≡ patch l 0 n but = patch-same l 0 n f but (λ j k. rw (ne-eqb j m (λ q. omega arith))) in
-        let here : but n ≡ v = rw (eq-eqb n m (sym e)) in
-        (λ i. set (set (patch l 0 n f) (place i) (f n)) (e i) v)
-        ∙ set-set (patch l 0 n f) n (f n) v
-        ∙ (λ i. set (same i) (sym place i) (sym here i))
-
-    earlier : (m < n → set (patch l 0 n f) m v ≡ patch l 0 n but) → m < n → set (set (patch l 0 n f) (0 + n) (f n)) m v ≡ set (patch l 0 n but) (0 + n) (but n)
-    earlier before k =
-        let here : but n ≡ f n = rw (ne-eqb n m (λ q. omega arith)) in
-        (λ i. set (set (patch l 0 n f) (place i) (f n)) m v)
-        ∙ set-comm (patch l 0 n f) n m (f n) v (λ q. omega arith)
-        ∙ (λ i. set (before k i) (sym place i) (sym here i))

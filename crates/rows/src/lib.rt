@@ -1,16 +1,14 @@
-// Ages: answers a row of the start's (rule 6.2), makes lists of ages what they are after a record (rules 6.3 to 6.5), and answers one age after a touch. All
-// places are worked out, also those without a block. None of the functions refuses: callers keep that the columns are there, and that what is touched
-// is one of them.
+// Ages: answers a row of the start's (rule 6.2), tells those of a row after a touch (rules 6.3 and 6.4), and answers one age after a touch. As many
+// places are worked out as the caller says, also those without a block. None of the functions refuses: callers keep that the columns are there, and
+// that what is touched is one of them.
 ghost use mathlib.Core.Path.{_≡_};
-ghost use Prim.Native.Nat.{suc, _*_, _≤_, _<_, min};
+ghost use Prim.Native.Nat.{suc, _+_, _*_, _≤_, _<_, min};
 ghost use mathlib.Core.Bool.{cond};
 ghost use lib.ListN.{length};
 ghost use Rattle.chart.specs.Geometry.{mostBlocks};
-ghost use Rattle.cache.specs.Ages.{mustGrown, mayGrown, touchAges, startAges};
-ghost use Rattle.rows.specs.Rows.{columnsBy, asRow, entryAges, exitAges, afterRecord};
-ghost use Rattle.plan.specs.Listed.{RecordIn};
+ghost use Rattle.cache.specs.Ages.{mustGrown, mayGrown, startAges};
+ghost use Rattle.rows.specs.Rows.{columnsBy, asRow, entryAges, exitAges, TouchedFrom};
 use chart::Geometry;
-use plan::PlannedRecord;
 
 // The must and may ages of a chart's blocks, in the list's order; no answer depends on the places past them.
 pub struct Row {
@@ -44,53 +42,57 @@ fn one_more(age: u8) -> u8
     if age == 255 { 255 } else { age + 1 }
 }
 
-// The may age of another block after a touch of a block of age `h` (rule 6.4); `same`: they are of one set.
+// The may age of another block after a touch of a block of age `h` (rule 6.4); `same`: they are of one set. What it may grow to is worked out in
+// any case, so that nothing is read in one case alone.
 pub fn may_age(limit: u8, same: bool, h: u8, age: u8) -> u8
     ensures { λ r. ⌜ r ≡ cond same (mayGrown limit h age) age ⌝ }
 {
-    if same {
-        if age <= h {
-            return smaller_of(limit, one_more(age));
-        }
-    }
-    age
+    let grown = smaller_of(limit, one_more(age));
+    if same & (age <= h) { grown } else { age }
 }
 
-// Makes two lists of ages what they are after a touch of the block in column m. All places are worked out alike, so that the loop's length is fixed.
-fn touch(must: &mut [u8], may: &mut [u8], columns: &[u8], m: usize)
-    requires { ⌜ (m < mostBlocks) × (3 * mostBlocks ≤ length (now columns)) ⌝ }
-    requires { ⌜ (length (now must) ≡ mostBlocks) × (length (now may) ≡ mostBlocks) ⌝ }
-    ensures { λ _. ⌜ exitAges must may ≡ touchAges (columnsBy (now (columns .entry)) mostBlocks) m (entryAges must may) ⌝ }
+// The age of a block after a touch: 0 for the touched one, and else what it is among the others.
+fn touched(own: bool, age: u8) -> u8
+    ensures { λ r. ⌜ r ≡ cond own 0 age ⌝ }
 {
-    let h = must[m];
-    let g = may[m];
+    if own { 0 } else { age }
+}
+
+// A column as a byte. The remainder is the column itself; it keeps a comparison of two such bytes one of bytes, sixteen at once.
+fn byte_of(column: usize) -> u8
+    requires { ⌜ column < 256 ⌝ }
+    ensures { λ r. ⌜ r ≡ column ⌝ }
+{
+    (column % 256) as u8
+}
+
+// Makes two lists begin with the ages of a row that begins at `base`, after a touch of the block in column m. `width` places are worked out, all
+// alike and in one loop: no store behind it stands between the loop and what reads the lists next.
+pub fn touch(
+    must: &[u8],
+    may: &[u8],
+    base: usize,
+    width: usize,
+    columns: &[u8],
+    m: usize,
+    musts: &mut [u8],
+    mays: &mut [u8],
+)
+    requires { ⌜ (m < width) × (width ≤ mostBlocks) ⌝ }
+    requires { ⌜ (base + width ≤ length (now must)) × (base + width ≤ length (now may)) ⌝ }
+    requires { ⌜ (3 * mostBlocks ≤ length (now columns)) × ((width ≤ length (now musts)) × (width ≤ length (now mays))) ⌝ }
+    ensures { λ _. ⌜ TouchedFrom width (now (columns .entry)) m base (entryAges must may) (exitAges musts mays) ⌝ }
+{
+    let h = must[base + m];
+    let g = may[base + m];
     let key = columns[m];
-    for j in 0..Geometry::BLOCKS {
+    let touched_place = byte_of(m);
+    for j in 0..width {
         let same = columns[j] == key;
         let limit = columns[plan::MAY_LIMITS + j];
-        must[j] = must_age(same, h, must[j]);
-        may[j] = may_age(limit, same, g, may[j]);
-    }
-    must[m] = 0;
-    may[m] = 0;
-}
-
-// Makes two lists of ages what they are after a record, touch by touch; a bare step leaves them as they are (rule 6.5). The ages are worked out where
-// they stand: a row that is handed on by value is copied as soon as there are two ways to its touches.
-pub fn step(must: &mut [u8], may: &mut [u8], columns: &[u8], planned: PlannedRecord)
-    requires { ⌜ 3 * mostBlocks ≤ length (now columns) ⌝ }
-    requires { ⌜ (length (now must) ≡ mostBlocks) × (length (now may) ≡ mostBlocks) ⌝ }
-    requires { ⌜ RecordIn mostBlocks planned ⌝ }
-    ensures { λ _. ⌜ exitAges must may ≡ afterRecord (columnsBy (now (columns .entry)) mostBlocks) planned (entryAges must may) ⌝ }
-{
-    let PlannedRecord::Reference(reference) = planned else {
-        return;
-    };
-    let lower = reference.lower;
-    let upper = reference.upper;
-    touch(must, may, columns, lower);
-    if lower != upper {
-        touch(must, may, columns, upper);
+        let own = byte_of(j) == touched_place;
+        musts[j] = touched(own, must_age(same, h, must[base + j]));
+        mays[j] = touched(own, may_age(limit, same, g, may[base + j]));
     }
 }
 

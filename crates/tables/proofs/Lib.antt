@@ -1,6 +1,6 @@
 pub mod Laid
-pub mod Loading
 pub mod Fitting
 pub mod Meeting
 pub mod Used
+pub mod Agreeing
 pub mod After

@@ -1,16 +1,16 @@
--- What the functions on lent tables and their laws promise one another: stores over places of a buffer, rows by value, and used parts.
+-- What the functions on lent tables and their laws promise one another: stores over places of a buffer, rows beside the table, and used parts.
 -- Nothing here is a rule of the tool: laws lead from it to the meetings of `flow`, which has rules 6.6 and 9.4.
-use Prim.Native.Nat.{ℕ, _+_, _-_, _*_, _≤_, _<_, max, min}
+use Prim.Native.Nat.{ℕ, _+_, _*_, _≤_, _<_, max, min}
 use mathlib.Core.Bool.{Bool, true, cond}
 use mathlib.Core.List.{List}
 use mathlib.Core.Path.{_≡_}
-use lib.ListN.{getD, set, length, take, replicate}
+use lib.ListN.{getD, set, length, take}
 use lib.Dec.{ltb, eqb}
-use Rattle.lists.specs.Lists.{listOf, written}
+use Rattle.lists.specs.Lists.{listOf}
 use Rattle.lists.specs.Loops.{patch}
 use Rattle.chart.specs.Geometry.{mostBlocks}
 use Rattle.plan.specs.declared.PlannedRecord.{PlannedRecord}
-use Rattle.rows.specs.Rows.{columnsBy, afterRecord}
+use Rattle.rows.specs.Rows.{columnsBy, afterRecord, ageFrom}
 use Rattle.cache.specs.Ages.{Ages, ageOf}
 use Rattle.flow.specs.Pass.{Run}
 use Rattle.layout.specs.Joins.{joinedRow, rowMoves}
@@ -45,32 +45,24 @@ pub record Roomy (nodes count : ℕ) (must may marks : List ℕ) : Type 0 where
   pub may-room : nodes * count ≤ length may
   pub marks-room : nodes ≤ length marks
 
--- What stands in a buffer from a place on, as much as a row holds and there is, zeros after it.
-abbrev pub loaded : ℕ → List ℕ → List ℕ
-loaded base buffer =
-    written (listOf (min mostBlocks (length buffer - base)) (λ j. getD buffer (base + j) 0)) (replicate mostBlocks 0)
+-- So many ages of each kind that stand in two lists from a place on.
+abbrev pub agesFrom : ℕ → ℕ → List ℕ → List ℕ → Ages
+agesFrom count base must may =
+    record { must = listOf count (ageFrom base must); may = listOf count (ageFrom base may) }
 
--- The first j ages of a row of zeros, stored.
-abbrev pub loadedTo : List ℕ → ℕ → ℕ → List ℕ
-loadedTo buffer base j = patch (replicate mostBlocks 0) 0 j (λ k. getD buffer (base + k) 0)
-
--- Row n of a lent table, as it is loaded.
-abbrev pub loadedRow : ℕ → ℕ → List ℕ → List ℕ → Ages
-loadedRow count n must may = record { must = loaded (n * count) must; may = loaded (n * count) may }
-
--- Row n, and what stands in the lists of a plan for each column, can be loaded.
+-- Row n is there, and what stands in the lists of a plan for each column.
 pub record Loads (columns must may : List ℕ) (count n : ℕ) : Type 0 where
   pub few : count ≤ mostBlocks
   pub columns-long : 3 * mostBlocks ≤ length columns
   pub must-in : n * count + count ≤ length must
   pub may-in : n * count + count ≤ length may
 
--- All ages of row n after a record.
+-- The ages of row n after a record.
 abbrev pub rowAfter : List ℕ → List ℕ → List ℕ → ℕ → ℕ → PlannedRecord → Ages
 rowAfter columns must may count n planned =
-    afterRecord (columnsBy columns mostBlocks) planned (loadedRow count n must may)
+    afterRecord (columnsBy columns mostBlocks) planned (agesFrom count (n * count) must may)
 
--- Two states whose ages are the same at each block; the row by value may be longer.
+-- Two states whose ages are the same at each block; either may be longer.
 pub record AgesAgree (count : ℕ) (row a : Ages) : Type 0 where
   pub must : (j : ℕ) → j < count → ageOf (row .must) j ≡ ageOf (a .must) j
   pub may : (j : ℕ) → j < count → ageOf (row .may) j ≡ ageOf (a .may) j

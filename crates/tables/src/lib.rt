@@ -1,58 +1,128 @@
-// Rows of a table in lent buffers: loaded by value, filled, or met into what is there (rules 6.6 and 9.4). None of the functions refuses: callers
-// keep that the places lie within the buffers. Nothing is written but the places that are named, and the mark of a row that is met into.
+// Rows of a table in lent buffers: told as they are after a record (rules 3.3 and 6.3 to 6.5), filled, or met into what is there (rules 6.6 and 9.4).
+// None of the functions refuses: callers keep that the places lie within the buffers. Nothing is written into a table but the places that are named, and
+// the mark of a row that is met into.
 ghost use mathlib.Core.Path.{_≡_};
 ghost use Prim.Native.Nat.{_+_, _*_, _≤_, _<_, max, min};
 ghost use lib.ListN.{length};
 ghost use Rattle.lists.specs.Loops.{patch};
 ghost use Rattle.chart.specs.Geometry.{mostBlocks};
-ghost use Rattle.cache.specs.Ages.{ageOf};
+ghost use Rattle.cache.specs.Ages.{ageOf, touchAges};
 ghost use Rattle.layout.specs.Joins.{RowJoined};
-ghost use Rattle.tables.specs.Inner.{loaded, grows, falls, metInto};
-ghost use Rattle.rows.specs.Rows.{entryAges};
+ghost use Rattle.plan.specs.Listed.{RecordIn};
+ghost use Rattle.rows.specs.Rows.{columnsBy, entryAges, exitAges, ageFrom, Begins};
+ghost use Rattle.tables.specs.Inner.{Loads, AgesAgree, agesFrom, rowAfter, grows, falls, metInto};
 ghost use Rattle.tables.specs.Contract.{entryRun, exitRun};
 use chart::Geometry;
+use plan::PlannedRecord;
 use rows::smaller_of;
 
-// What stands from a place on, as much as a row holds and there is, zeros after it.
-fn load(buffer: &[u8], base: usize) -> [u8; Geometry::BLOCKS]
-    requires { ⌜ base ≤ length (now buffer) ⌝ }
-    ensures { λ r. ⌜ r ≡ loaded base (now (buffer .entry)) ⌝ }
+// A quarter and a half of the most places that a row can have.
+const QUARTER: usize = Geometry::BLOCKS / 4;
+
+const HALF: usize = Geometry::BLOCKS / 2;
+
+// How many places are worked out of a row of so many blocks: a quarter, a half or all of the most, so that they come sixteen at a time.
+fn rounded(blocks: usize) -> usize
+    requires { ⌜ blocks ≤ mostBlocks ⌝ }
+    ensures { λ r. ⌜ (blocks ≤ r) × (r ≤ mostBlocks) ⌝ }
 {
-    let mut ages = [0u8; Geometry::BLOCKS];
-    let room = buffer.len() - base;
-    let count = if room < Geometry::BLOCKS {
-        room
-    } else {
-        Geometry::BLOCKS
-    };
-    for j in 0..count {
-        ages[j] = buffer[base + j];
+    if blocks <= QUARTER {
+        return QUARTER;
     }
-    ages
+    if blocks <= HALF {
+        return HALF;
+    }
+    Geometry::BLOCKS
 }
 
-// The same where there is as much as a row holds: the loop's length is fixed.
-fn load_whole(buffer: &[u8], base: usize) -> [u8; Geometry::BLOCKS]
-    requires { ⌜ base + mostBlocks ≤ length (now buffer) ⌝ }
-    ensures { λ r. ⌜ r ≡ loaded base (now (buffer .entry)) ⌝ }
+// The same where there is room for so many; else no more than there are blocks.
+fn width_of(blocks: usize, room: usize) -> usize
+    requires { ⌜ (blocks ≤ mostBlocks) × (blocks ≤ room) ⌝ }
+    ensures { λ r. ⌜ (blocks ≤ r) × ((r ≤ mostBlocks) × (r ≤ room)) ⌝ }
 {
-    let mut ages = [0u8; Geometry::BLOCKS];
-    for j in 0..Geometry::BLOCKS {
-        ages[j] = buffer[base + j];
-    }
-    ages
+    let width = rounded(blocks);
+    if width <= room { width } else { blocks }
 }
 
-// Answers the ages of row n in a buffer of rows of so many blocks, by value.
-pub fn load_row(buffer: &[u8], blocks: usize, n: usize) -> [u8; Geometry::BLOCKS]
-    requires { ⌜ n * blocks ≤ length (now buffer) ⌝ }
-    ensures { λ r. ⌜ r ≡ loaded (n * blocks) (now (buffer .entry)) ⌝ }
+// The smaller of two lengths.
+fn shorter(a: usize, b: usize) -> usize
+    ensures { λ r. ⌜ r ≡ min a b ⌝ }
+{
+    if b < a { b } else { a }
+}
+
+// Makes a list begin with the ages that stand from `base` on.
+fn take_ages(ages: &[u8], base: usize, blocks: usize, taken: &mut [u8])
+    requires { ⌜ (base + blocks ≤ length (now ages)) × (blocks ≤ length (now taken)) ⌝ }
+    ensures { λ _. ⌜ Begins blocks (now (taken .exit)) (ageFrom base (now (ages .entry))) ⌝ }
+{
+    for j in 0..blocks {
+        taken[j] = ages[base + j];
+    }
+}
+
+// Makes two lists begin with the ages of the row that begins at `base`, after a touch of the block in column m.
+fn touch_row(
+    must: &[u8],
+    may: &[u8],
+    base: usize,
+    blocks: usize,
+    columns: &[u8],
+    m: usize,
+    musts: &mut [u8],
+    mays: &mut [u8],
+)
+    requires { ⌜ (m < blocks) × (blocks ≤ mostBlocks) ⌝ }
+    requires { ⌜ (base + blocks ≤ length (now must)) × (base + blocks ≤ length (now may)) ⌝ }
+    requires { ⌜ (3 * mostBlocks ≤ length (now columns)) × ((length (now musts) ≡ mostBlocks) × (length (now mays) ≡ mostBlocks)) ⌝ }
+    ensures { λ _. ⌜ AgesAgree blocks (exitAges musts mays) (touchAges (columnsBy (now (columns .entry)) mostBlocks) m (agesFrom blocks base (now (must .entry)) (now (may .entry)))) ⌝ }
+{
+    let width = width_of(blocks, shorter(must.len(), may.len()) - base);
+    rows::touch(must, may, base, width, columns, m, musts, mays);
+}
+
+// Makes two lists begin with the ages of row n after a record, touch by touch; after a bare step they are those of the row (rule 6.5). What stands in the
+// lists past the blocks is free.
+pub fn row_after(
+    must: &[u8],
+    may: &[u8],
+    columns: &[u8],
+    blocks: usize,
+    n: usize,
+    planned: PlannedRecord,
+    musts: &mut [u8],
+    mays: &mut [u8],
+)
+    requires { ⌜ Loads (now columns) (now must) (now may) blocks n ⌝ }
+    requires { ⌜ (length (now musts) ≡ mostBlocks) × (length (now mays) ≡ mostBlocks) ⌝ }
+    requires { ⌜ RecordIn blocks planned ⌝ }
+    ensures { λ _. ⌜ AgesAgree blocks (exitAges musts mays) (rowAfter (now (columns .entry)) (now (must .entry)) (now (may .entry)) blocks n planned) ⌝ }
 {
     let base = n * blocks;
-    if Geometry::BLOCKS <= buffer.len() - base {
-        return load_whole(buffer, base);
+    let PlannedRecord::Reference(reference) = planned else {
+        take_ages(must, base, blocks, musts);
+        take_ages(may, base, blocks, mays);
+        return;
+    };
+    let lower = reference.lower;
+    let upper = reference.upper;
+    touch_row(must, may, base, blocks, columns, lower, musts, mays);
+    if lower != upper {
+        let mut first_musts = [0u8; Geometry::BLOCKS];
+        let mut first_mays = [0u8; Geometry::BLOCKS];
+        take_ages(musts, 0, Geometry::BLOCKS, &mut first_musts);
+        take_ages(mays, 0, Geometry::BLOCKS, &mut first_mays);
+        touch_row(
+            &first_musts,
+            &first_mays,
+            0,
+            blocks,
+            columns,
+            upper,
+            musts,
+            mays,
+        );
     }
-    load(buffer, base)
 }
 
 // Stores one value in so many places from `base` on.

@@ -10,6 +10,7 @@ use lib.Dec.{eqb, ltb}
 use lib.ListN.{getD, set, length, length-set, length-replicate, getD-replicate}
 use lib.Seq.{getD-set-same, getD-set-other}
 use Rattle.lists.specs.Lists.{sumOf, written}
+use Rattle.lists.proofs.Choice.{or-last}
 use Rattle.lists.specs.Loops.{any}
 use Rattle.lists.proofs.Loops.{any-same}
 use Rattle.lists.proofs.Sums.{sum-equal, flags-most}
@@ -50,10 +51,6 @@ setIf-at false column marks false k h e = go (eqb column k)
     go true = e
     go false = e
 
-or-none : (a : Bool) → (a || false) ≡ a
-or-none true = refl
-or-none false = refl
-
 or-assoc : (a b c : Bool) → ((a || b) || c) ≡ (a || (b || c))
 or-assoc true b c = refl
 or-assoc false b c = refl
@@ -65,7 +62,7 @@ module _ (first second : ℕ) (marks : List ℕ) where
       length-setIf (eqb second kept) (reference .upper) (setIf (eqb first kept) (reference .lower) marks) ∙ length-setIf (eqb first kept) (reference .lower) marks
 
   markedBy-at : (planned : PlannedRecord) → RecordIn (length marks) planned → (flag : Bool) (k : ℕ) → getD marks k 0 ≡ cond flag 1 0 → getD (markedBy planned first second marks) k 0 ≡ cond (flag || keepsOf k planned first second) 1 0
-  markedBy-at Step inside flag k e = e ∙ ap (λ (t : Bool). cond t 1 0) (sym (or-none flag))
+  markedBy-at Step inside flag k e = e ∙ ap (λ (t : Bool). cond t 1 0) (sym (or-last flag))
   markedBy-at (Reference reference) inside flag k e =
       setIf-at (eqb second kept) (reference .upper) (setIf (eqb first kept) (reference .lower) marks) (flag || (eqb (reference .lower) k && eqb first kept)) k (rw (length-setIf (eqb first kept) (reference .lower) marks) (inside .1))
       (setIf-at (eqb first kept) (reference .lower) marks flag k (inside .0) e)
@@ -80,7 +77,7 @@ module _ (first second : ℕ) (marks : List ℕ) where
 
   chargedBy-at : (planned : PlannedRecord) (ceiling : ℕ) → RecordIn (length marks) planned → (flag : Bool) (k : ℕ) → getD marks k 0 ≡ cond flag 1 0
       → getD (chargedBy planned first second ceiling marks) k 0 ≡ cond (flag || (ltb 0 ceiling && keepsOf k planned first second)) 1 0
-  chargedBy-at planned zero inside flag k e = e ∙ ap (λ (t : Bool). cond t 1 0) (sym (or-none flag))
+  chargedBy-at planned zero inside flag k e = e ∙ ap (λ (t : Bool). cond t 1 0) (sym (or-last flag))
   chargedBy-at planned (suc ceiling) inside flag k e = rw (ne-eqb (suc ceiling) 0 (λ q. omega arith), lt-ltb 0 (suc ceiling) (omega arith)) (markedBy-at planned inside flag k e)
 
 module _ (plan classes ceilings : List ℕ) where
@@ -137,7 +134,7 @@ module _ (held : Plan) (n column : ℕ) where
           ≡ keepsAmong column (lower ∷ cond t [] (upper ∷ [])) (classesOf held (lower ∷ cond t [] (upper ∷ [])) whole)
       go true = ap (λ (x : Bool). (eqb (reference .lower) column && eqb (getD (classesOf held (lower ∷ []) whole) 0 none) kept) || x) (and-false (eqb (reference .upper) column))
       go false = ap (λ (x : Bool). (eqb (reference .lower) column && eqb (getD (classesOf held (lower ∷ (upper ∷ [])) whole) 0 none) kept) || x)
-          (sym (or-none (eqb (reference .upper) column && eqb (getD (classesOf held (lower ∷ (upper ∷ [])) whole) 1 none) kept)))
+          (sym (or-last (eqb (reference .upper) column && eqb (getD (classesOf held (lower ∷ (upper ∷ [])) whole) 1 none) kept)))
 
   keeps-blank : (planned : PlannedRecord) → keepsOf column planned 0 0 ≡ false
   keeps-blank Step = refl

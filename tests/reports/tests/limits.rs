@@ -68,12 +68,13 @@ const PLACES: [(&str, &[usize]); 8] = [
 ];
 
 /// Soundings, which the prover holds to the definitions, and texts of what was measured and of what has moved.
-const LEFT_OUT: [&str; 8] = [
+const LEFT_OUT: [&str; 9] = [
     "crates/chart/specs/Sounded.antt",
     "crates/demands/specs/Anywhere.antt",
     "crates/demands/specs/Sounded.antt",
     "crates/writer/specs/Sounded.antt",
     "docs/SPEED.md",
+    "docs/chains.svg",
     "docs/growth.svg",
     "docs/landings/",
     "docs/speed.svg",

@@ -58,7 +58,7 @@ pub fn analyse(bytes: &[u8], allowance: usize, lent: Buffers) -> Analysed {
 }
 
 /// The parts that are used, or nothing if a buffer is shorter than its part.
-fn used<'a>(chart: &Chart, lent: Buffers<'a>) -> Option<(&'a mut [u32], Table<'a>, &'a mut [u8])> {
+pub fn used<'a>(chart: &Chart, lent: Buffers<'a>) -> Option<(&'a mut [u32], Table<'a>, &'a mut [u8])> {
     let (nodes, blocks) = (chart.nodes.len(), chart.blocks.len());
     let table = Table {
         blocks,

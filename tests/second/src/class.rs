@@ -41,7 +41,7 @@ impl Class {
     }
 
     /// The class of a touch by what there is of its block just before it: its ages, and whether it is kept.
-    fn known(chart: &Chart, must: u8, may: u8, kept: bool) -> Class {
+    pub fn known(chart: &Chart, must: u8, may: u8, kept: bool) -> Class {
         if must < chart.ways() {
             Class::Hit
         } else if may == chart.ways() {

@@ -34,17 +34,61 @@ pub fn line(out: &mut String, [x1, y1]: [f64; 2], [x2, y2]: [f64; 2], colour: &s
     );
 }
 
-pub fn circle(out: &mut String, [x, y]: [f64; 2], radius: f64, colour: &str) {
+/// A line that is not in the way of what is drawn over it.
+pub fn thin(out: &mut String, [x1, y1]: [f64; 2], [x2, y2]: [f64; 2]) {
     put(
         out,
-        format!(r#"<circle cx="{x:.1}" cy="{y:.1}" r="{radius:.1}" fill="{colour}"/>"#),
+        format!(
+            r#"<line x1="{x1:.1}" y1="{y1:.1}" x2="{x2:.1}" y2="{y2:.1}" stroke="{INK}" stroke-width="0.5" opacity="0.6"/>"#
+        ),
     );
 }
 
-/// A line through points; dashed, or whole.
-pub fn curve(out: &mut String, points: &[[f64; 2]], colour: &str, dashed: bool) {
+/// What stands at a point. They can be told apart without their colours.
+#[derive(Clone, Copy)]
+pub enum Mark {
+    Circle,
+    Square,
+    Triangle,
+}
+
+/// A mark at a point, so far from it to each side.
+pub fn mark(out: &mut String, mark: Mark, [x, y]: [f64; 2], radius: f64, colour: &str) {
+    match mark {
+        Mark::Circle => put(
+            out,
+            format!(r#"<circle cx="{x:.1}" cy="{y:.1}" r="{radius:.1}" fill="{colour}"/>"#),
+        ),
+        Mark::Square => rectangle(out, [x - radius, y - radius], [2.0 * radius, 2.0 * radius], colour),
+        Mark::Triangle => {
+            let (top, bottom) = (y - 1.2 * radius, y + radius);
+            let (left, right) = (x - 1.2 * radius, x + 1.2 * radius);
+            put(
+                out,
+                format!(
+                    r#"<polygon points="{x:.1},{top:.1} {left:.1},{bottom:.1} {right:.1},{bottom:.1}" fill="{colour}"/>"#
+                ),
+            );
+        }
+    }
+}
+
+/// How a line is drawn.
+#[derive(Clone, Copy)]
+pub enum Stroke {
+    Whole,
+    Dashed,
+    Dotted,
+}
+
+/// A line through points.
+pub fn curve(out: &mut String, points: &[[f64; 2]], colour: &str, stroke: Stroke) {
     let points: Vec<String> = points.iter().map(|[x, y]| format!("{x:.1},{y:.1}")).collect();
-    let dashes = if dashed { r#" stroke-dasharray="5 4""# } else { "" };
+    let dashes = match stroke {
+        Stroke::Whole => "",
+        Stroke::Dashed => r#" stroke-dasharray="5 4""#,
+        Stroke::Dotted => r#" stroke-dasharray="1.5 4""#,
+    };
     put(
         out,
         format!(

@@ -3,7 +3,7 @@
 use charts::random::Random;
 use charts::{Chart, Record};
 
-#[derive(Clone, Copy, Debug)]
+#[derive(Clone, Copy, Debug, PartialEq, Eq)]
 pub enum Kind {
     /// A straight line with short cuts: all arrows lead on, and two passes do.
     Short,

@@ -1,23 +1,26 @@
 //! A table of ratios and its picture, or one job alone for a counter of instructions:
 //!
 //!     speed table docs/speed.svg               the table, and the picture into that file
+//!     speed chains docs/chains.svg             how long an analysis takes as chains grow, and the picture into that file
 //!     speed before                             the table of the analysis before a change and now
 //!     speed written                            the table of the writer beside the reader
 //!     speed growth PROGRAM docs/growth.svg     how long the program takes as charts grow, and the picture into that file
 //!     speed slowest 900                        the slowest chart of so many nodes, to standard output
 //!     speed ours backward 256 64 3             the proved analysis of that chart, three times
 //!     speed second backward 256 64 3           the second program's
+//!     speed unchanged backward 256 64 3        the one that passes over unchanged nodes
 
 use charts::slowest::slowest;
 use second::lending::Lending;
 use second::limits::{BLOCKS, NODES, PASSES};
 use speed::before::{agree, BEFORE};
+use speed::chains;
 use speed::growth::{growths, start, Growth};
 use speed::kinds::Kind;
-use speed::measures::{ratio, Case, Measure};
-use speed::plot;
+use speed::measures::Case;
 use speed::plot_growth;
-use speed::runs::{Run, OURS, SECOND};
+use speed::runs::{Run, OURS, SECOND, UNCHANGED};
+use speed::table;
 use speed::written::{written, Written};
 use std::env;
 use std::fs;
@@ -27,7 +30,8 @@ fn main() {
     let words: Vec<String> = env::args().skip(1).collect();
     let words: Vec<&str> = words.iter().map(String::as_str).collect();
     match words[..] {
-        ["table", picture] => table(picture),
+        ["table", picture] => table::print(picture),
+        ["chains", picture] => chains::print(picture),
         ["before"] => changed(),
         ["written"] => beside_reader(),
         ["growth", program, picture] => growth(program, picture),
@@ -35,45 +39,8 @@ fn main() {
             .write_all(&slowest(number(nodes)).bytes())
             .expect("standard output takes the chart"),
         [whose, kind, nodes, blocks, times] => alone(whose, kind, number(nodes), number(blocks), number(times)),
-        _ => panic!("'table PICTURE', 'before', 'written', 'growth PROGRAM PICTURE', 'slowest NODES', or: ours|second short|looping|backward|straddling NODES BLOCKS TIMES"),
+        _ => panic!("'table PICTURE', 'chains PICTURE', 'before', 'written', 'growth PROGRAM PICTURE', 'slowest NODES', or: ours|second|unchanged short|looping|backward|straddling NODES BLOCKS TIMES"),
     }
-}
-
-fn table(picture: &str) {
-    println!("| chart | nodes | blocks | cleared | passes | ours, µs | second, µs | ours / second | passes, sets and classes alone: ours / second |");
-    println!("|---|---|---|---|---|---|---|---|---|");
-    let measured: Vec<(Case, f64)> = Case::all()
-        .map(|case| {
-            let measure = case.measure();
-            println!("{}", row(case, &measure));
-            (case, ratio(measure.whole.best))
-        })
-        .collect();
-    for case in Case::straddling() {
-        println!("{}", row(case, &case.measure()));
-    }
-    let [most, fewer] = [true, false].map(|most| largest(&measured, most));
-    println!("\nlargest ratio, straddling apart: {most:.2} with {BLOCKS} blocks, {fewer:.2} with fewer");
-    fs::write(picture, plot::svg(&measured)).expect("the picture can be written");
-}
-
-/// The largest ratio of charts that have the most blocks, or fewer.
-fn largest(measured: &[(Case, f64)], most: bool) -> f64 {
-    let ratios = measured.iter().filter(|(case, _)| (case.blocks == BLOCKS) == most);
-    ratios.map(|&(_, ratio)| ratio).fold(0.0, f64::max)
-}
-
-fn row(case: Case, measure: &Measure) -> String {
-    let Case { nodes, blocks, .. } = case;
-    let name = case.kind.name();
-    let cleared = if case.cleared { "yes" } else { "no" };
-    let [ours, second] = measure.whole.best;
-    format!(
-        "| {name} | {nodes} | {blocks} | {cleared} | {} | {ours:.2} | {second:.2} | {:.2} | {:.2} |",
-        measure.passes,
-        ratio(measure.whole.best),
-        ratio(measure.after_reading())
-    )
 }
 
 fn changed() {
@@ -83,15 +50,15 @@ fn changed() {
     );
     println!("|---|---|---|---|---|---|---|---|");
     for case in Case::changed().filter(|case| case.taken_by(before)) {
-        let measure = case.compare([OURS, before], agree);
+        let [whole, rest] = [PASSES, 0].map(|allowance| case.compare([OURS, before], allowance, agree));
         let Case { nodes, blocks, .. } = case;
         let name = case.kind.name();
-        let [now, then] = measure.whole.best;
+        let [now, then] = whole.best();
         println!(
             "| {name} | {nodes} | {blocks} | {then:.2} | {now:.2} | {:.2} | {:.3} | {:.3} |",
             now - then,
-            measure.whole.ratio,
-            measure.rest.ratio
+            whole.middle(1),
+            rest.middle(1)
         );
     }
 }
@@ -133,7 +100,8 @@ fn alone(whose: &str, kind: &str, nodes: usize, blocks: usize, times: usize) {
     let analysis = match whose {
         "ours" => OURS,
         "second" => SECOND,
-        _ => panic!("{whose} is neither ours nor second"),
+        "unchanged" => UNCHANGED,
+        _ => panic!("{whose} is not one of ours, second and unchanged"),
     };
     let kind = Kind::IN_TURN
         .into_iter()

@@ -1,12 +1,16 @@
-//! Two analyses measured on the same charts.
+//! Analyses measured on the same charts.
 
 use crate::kinds::Kind;
-use crate::runs::{Analysis, Run, OURS, SECOND};
+use crate::runs::{Analysis, Run, OURS, SECOND, UNCHANGED};
 use crate::timing::{best, middle, turns};
 use second::analysis::Analysed;
 use second::lending::Lending;
 use second::limits::{BLOCKS, NODES, PASSES};
 use second::refusal::Refusal;
+use std::time::Duration;
+
+/// The nodes of the smallest charts, which have no more blocks.
+pub const FEWEST: usize = 16;
 
 #[derive(Clone, Copy)]
 pub struct Case {
@@ -17,36 +21,36 @@ pub struct Case {
     pub cleared: bool,
 }
 
-/// The times of two analyses in microseconds.
-pub type Times = [f64; 2];
-
-pub struct Measure {
+/// What some analyses took that were measured together.
+pub struct Measure<const OF: usize> {
     pub passes: usize,
-    pub whole: Readings,
-    /// An analysis with allowance 0, which makes no pass.
-    pub rest: Readings,
+    readings: Vec<[Duration; OF]>,
 }
 
-/// Two analyses that took turns.
-pub struct Readings {
-    /// The best time of each.
-    pub best: Times,
-    /// The middle ratio of a turn.
-    pub ratio: f64,
-}
+impl<const OF: usize> Measure<OF> {
+    /// The best time of each, in microseconds.
+    pub fn best(&self) -> [f64; OF] {
+        best(&self.readings)
+    }
 
-impl Measure {
-    /// The passes, the kept sets and the classes.
-    pub fn after_reading(&self) -> Times {
-        [0, 1].map(|whose| self.whole.best[whose] - self.rest.best[whose])
+    /// How many times another's time the first takes: the middle ratio of a turn.
+    pub fn middle(&self, other: usize) -> f64 {
+        middle(&self.readings, other)
     }
 }
 
 impl Case {
-    /// Nodes and blocks, the most of both first. A chart of 16 nodes has no more than 16 blocks.
-    const SIZES: [(usize, usize); 6] = [(NODES, BLOCKS), (NODES, 8), (256, BLOCKS), (256, 8), (16, 16), (16, 8)];
+    /// Nodes and blocks, the most of both first.
+    const SIZES: [(usize, usize); 6] = [
+        (NODES, BLOCKS),
+        (NODES, 8),
+        (256, BLOCKS),
+        (256, 8),
+        (FEWEST, FEWEST),
+        (FEWEST, 8),
+    ];
 
-    /// The table of the proved analysis and the second program's.
+    /// The table of the proved analysis and what it is measured against.
     pub fn all() -> impl Iterator<Item = Case> {
         Case::of(&Kind::IN_TURN).flat_map(|case| [false, true].map(|cleared| Case { cleared, ..case }))
     }
@@ -84,45 +88,54 @@ impl Case {
         })
     }
 
-    /// The best times of the proved analysis and the second program's.
-    pub fn measure(self) -> Measure {
-        self.compare([OURS, SECOND], |ours, second| ours == second)
+    /// The proved analysis and what it is measured against.
+    pub fn measure(self) -> Measure<3> {
+        self.compare([OURS, SECOND, UNCHANGED], PASSES, |ours, other| ours == other)
     }
 
-    /// The best times of two analyses, once they give the same answer and the buffers that they leave agree.
-    pub fn compare(self, analyses: [Analysis; 2], agree: fn(&Lending, &Lending) -> bool) -> Measure {
+    /// Times analyses with so many passes allowed, once they give the same answer and the buffers that they leave agree with the first one's.
+    pub fn compare<const OF: usize>(
+        self,
+        analyses: [Analysis; OF],
+        allowance: usize,
+        agree: fn(&Lending, &Lending) -> bool,
+    ) -> Measure<OF> {
         let charts = self.kind.charts(self.nodes, self.blocks);
-        let [mut one, mut other] = analyses.map(|analysis| Run {
+        let mut runs = analyses.map(|analysis| Run {
             analysis,
             charts: &charts,
             lent: Lending::of(self.blocks, self.nodes, 0),
             cleared: self.cleared,
         });
-        let mut settled = 0;
-        for chart in &charts {
-            let answer = one.once(chart, PASSES);
-            assert_eq!(answer, other.once(chart, PASSES));
-            assert!(agree(&one.lent, &other.lent), "{:?} and {:?}", one.lent, other.lent);
-            let Analysed::Settled { passes, .. } = answer else {
-                panic!("the chart is not settled: {answer:?}");
-            };
-            settled = passes;
-        }
-        let mut times = |allowance| {
-            let readings = turns(|| one.timed(allowance), || other.timed(allowance));
-            Readings {
-                best: best(&readings).map(|time| time.as_secs_f64() * 1e6),
-                ratio: middle(&readings),
-            }
-        };
+        let passes = charts.iter().map(|chart| agreed(&mut runs, chart, agree)).last();
         Measure {
-            passes: settled,
-            whole: times(PASSES),
-            rest: times(0),
+            passes: passes.expect("there are charts"),
+            readings: turns(runs.each_mut().map(|run| || run.timed(allowance))),
         }
     }
 }
 
-pub fn ratio([one, other]: Times) -> f64 {
-    one / other
+/// How many passes all of them took for a chart.
+fn agreed(runs: &mut [Run], chart: &[u8], agree: fn(&Lending, &Lending) -> bool) -> usize {
+    let (first, others) = runs.split_first_mut().expect("there are analyses");
+    let answer = first.once(chart, PASSES);
+    for other in others {
+        assert_eq!(answer, other.once(chart, PASSES));
+        assert!(agree(&first.lent, &other.lent), "{:?} and {:?}", first.lent, other.lent);
+    }
+    let Analysed::Settled { passes, .. } = answer else {
+        panic!("the chart is not settled: {answer:?}");
+    };
+    passes
+}
+
+/// A ratio with as many places as say something.
+pub fn shown(ratio: f64) -> String {
+    if ratio < 0.01 {
+        format!("{ratio:.4}")
+    } else if ratio < 0.1 {
+        format!("{ratio:.3}")
+    } else {
+        format!("{ratio:.2}")
+    }
 }

@@ -1,6 +1,6 @@
-//! How long the program takes as charts grow, as a picture: a curve for each kind, and how the square of the nodes grows.
+//! How long the program takes as charts grow, as a picture: a curve for each kind.
 
-use crate::draw::{circle, curve, line, sheet, text, INK};
+use crate::draw::{curve, line, mark, sheet, text, Mark, Stroke, INK};
 use crate::growth::{Growth, FROM};
 use second::limits::NODES;
 use std::env::consts::ARCH;
@@ -35,17 +35,16 @@ pub fn svg(growths: &[Growth; 2]) -> String {
     });
     for which in [0, 1] {
         let (colour, other) = (COLOURS[which], &points[1 - which]);
-        curve(&mut all, &points[which], colour, false);
+        curve(&mut all, &points[which], colour, Stroke::Whole);
         for (place, &[x, y]) in points[which].iter().enumerate() {
-            circle(&mut all, [x, y], 3.5, colour);
+            mark(&mut all, Mark::Circle, [x, y], 3.5, colour);
             // not where it would run into the curve above
             if !(y - 30.0..y).contains(&other[place][1]) {
-                let words = format!("{:.0}", growths[which].runs[place].milliseconds);
+                let words = format!("{:.1}", growths[which].runs[place].milliseconds);
                 text(&mut all, [x, y - 11.0], "middle", colour, &words);
             }
         }
     }
-    squares(&mut all, &scale, &growths[1]);
     legend(&mut all, growths);
     sheet(SIZE, &all)
 }
@@ -99,26 +98,13 @@ fn axes(out: &mut String, scale: &Scale) {
     text(out, [(LEFT + RIGHT) / 2.0, BOTTOM + 40.0], "middle", INK, "nodes");
 }
 
-/// As the square of the nodes, through the first point of a growth.
-fn squares(out: &mut String, scale: &Scale, growth: &Growth) {
-    let first = &growth.runs[0];
-    let square = |nodes: usize| {
-        let times = nodes as f64 / first.nodes as f64;
-        scale.point(nodes, first.milliseconds * times * times)
-    };
-    let points: Vec<[f64; 2]> = (FROM..=NODES).step_by(32).map(square).collect();
-    curve(out, &points, INK, true);
-}
-
 /// What each curve is, in the corner where none of them goes.
 fn legend(out: &mut String, growths: &[Growth; 2]) {
     let [x, mut y] = [LEFT + INSET, TOP + 12.0];
     for (growth, colour) in growths.iter().zip(COLOURS).rev() {
-        curve(out, &[[x, y], [x + 26.0, y]], colour, false);
-        circle(out, [x + 13.0, y], 3.5, colour);
+        curve(out, &[[x, y], [x + 26.0, y]], colour, Stroke::Whole);
+        mark(out, Mark::Circle, [x + 13.0, y], 3.5, colour);
         text(out, [x + 36.0, y + 4.0], "start", colour, growth.name);
         y += 20.0;
     }
-    curve(out, &[[x, y], [x + 26.0, y]], INK, true);
-    text(out, [x + 36.0, y + 4.0], "start", INK, "as the square of the nodes");
 }

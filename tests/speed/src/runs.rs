@@ -1,15 +1,17 @@
-//! One analysis alone, the proved one or the second program's, with charts and buffers of its own.
+//! One analysis alone, the proved one or one that it is measured against, with charts and buffers of its own.
 
 use crate::boundary;
 use second::analysis::Analysed;
 use second::lending::Lending;
 use std::hint::black_box;
 use std::time::{Duration, Instant};
+use unchanged::analysis::analyse_lending;
 
 pub type Analysis = fn(&mut Lending, &[u8], usize) -> Analysed;
 
 pub const OURS: Analysis = boundary::analyse;
 pub const SECOND: Analysis = Lending::analyse;
+pub const UNCHANGED: Analysis = analyse_lending;
 
 pub struct Run<'a> {
     pub analysis: Analysis,

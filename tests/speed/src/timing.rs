@@ -1,3 +1,4 @@
+use std::array::from_fn;
 use std::time::{Duration, Instant};
 
 /// Short, so that on a machine with other work some readings fall between its turns.
@@ -5,33 +6,30 @@ const READING: Duration = Duration::from_micros(500);
 const READINGS: usize = 20;
 const BUDGET: Duration = Duration::from_secs(1);
 
-/// The readings of two jobs that tell their own time. They take turns, so that what else the machine does falls on both.
-pub fn turns(mut one: impl FnMut() -> Duration, mut other: impl FnMut() -> Duration) -> Vec<[Duration; 2]> {
-    let times = repeats(&mut one).min(repeats(&mut other));
+/// The readings of some jobs that tell their own time. They take turns, so that what else the machine does falls on all of them.
+pub fn turns<const JOBS: usize>(mut jobs: [impl FnMut() -> Duration; JOBS]) -> Vec<[Duration; JOBS]> {
+    let times = jobs.iter_mut().map(repeats).min().expect("there are jobs");
     let mut readings = Vec::new();
     let start = Instant::now();
     while readings.len() < READINGS || start.elapsed() < BUDGET {
-        readings.push([reading(&mut one, times), reading(&mut other, times)]);
+        readings.push(jobs.each_mut().map(|job| reading(job, times)));
     }
     readings
 }
 
-/// The best reading of each.
-pub fn best(readings: &[[Duration; 2]]) -> [Duration; 2] {
-    [0, 1].map(|whose| {
-        readings
-            .iter()
-            .map(|turn| turn[whose])
-            .min()
-            .expect("there are readings")
+/// The best reading of each, in microseconds.
+pub fn best<const JOBS: usize>(readings: &[[Duration; JOBS]]) -> [f64; JOBS] {
+    from_fn(|whose| {
+        let times = readings.iter().map(|turn| turn[whose]);
+        times.min().expect("there are readings").as_secs_f64() * 1e6
     })
 }
 
-/// How many times the other's time the one takes: the middle one of all turns, so that a slow stretch of the machine counts for little.
-pub fn middle(readings: &[[Duration; 2]]) -> f64 {
+/// How many times another's time the first takes: the middle one of all turns, so that a slow stretch of the machine counts for little.
+pub fn middle<const JOBS: usize>(readings: &[[Duration; JOBS]], other: usize) -> f64 {
     let mut ratios: Vec<f64> = readings
         .iter()
-        .map(|[one, other]| one.as_secs_f64() / other.as_secs_f64())
+        .map(|turn| turn[0].as_secs_f64() / turn[other].as_secs_f64())
         .collect();
     ratios.sort_by(f64::total_cmp);
     ratios[ratios.len() / 2]

@@ -4,7 +4,7 @@ use crate::kinds::Kind;
 use crate::timing::{best, middle, turns};
 use second::limits::LONGEST;
 use std::hint::black_box;
-use std::time::Instant;
+use std::time::{Duration, Instant};
 use veilbuzz::{fields_of, read, write, Fields, Heading, NodeLists};
 
 pub struct Written {
@@ -41,20 +41,20 @@ pub fn written(kind: Kind, nodes: usize, blocks: usize) -> Written {
     let mut buffer = vec![0; LONGEST];
     let length = write(heading, &lists, &mut buffer).expect("there is room");
     assert_eq!(buffer[..length], chart);
-    let readings = turns(
-        || {
-            let start = Instant::now();
-            black_box(write(black_box(heading), black_box(&lists), &mut buffer)).expect("there is room");
-            start.elapsed()
-        },
-        || {
-            let start = Instant::now();
-            black_box(read(black_box(&chart))).expect("the chart is accepted");
-            start.elapsed()
-        },
-    );
+    let mut writer = || {
+        let start = Instant::now();
+        black_box(write(black_box(heading), black_box(&lists), &mut buffer)).expect("there is room");
+        start.elapsed()
+    };
+    let mut reader = || {
+        let start = Instant::now();
+        black_box(read(black_box(&chart))).expect("the chart is accepted");
+        start.elapsed()
+    };
+    let jobs: [&mut dyn FnMut() -> Duration; 2] = [&mut writer, &mut reader];
+    let readings = turns(jobs);
     Written {
-        best: best(&readings).map(|time| time.as_secs_f64() * 1e6),
-        ratio: middle(&readings),
+        best: best(&readings),
+        ratio: middle(&readings, 1),
     }
 }

@@ -1,42 +1,51 @@
 use borrow.Author.Needs.{needs}
-use mathlib.Core.Path.{_≡_, ap, _∙_}
+use Prim.Native.Nat.{ℕ, _≤_, _-_}
+use mathlib.Core.Bool.{cond}
 use mathlib.Core.List.{List}
-use Prim.Native.Nat.{ℕ, _+_, _*_, _≤_, _-_}
+use mathlib.Core.Path.{_≡_, ap, _∙_}
 use native.Mathlib.Omega.{arith}
-use lib.ListN.{getD, length, length-set}
 use denote.Ref.{now}
+use lib.Dec.{eqb}
+use lib.ListN.{length}
 use Rattle.lists.specs.Loops.{patch}
-use Rattle.chart.specs.Geometry.{mostBlocks}
-use Rattle.lists.specs.Lists.{listOf}
-use Rattle.cache.specs.Ages.{ageOf, mustGrown, mayGrown, mustAfter, mayAfter, touchAges}
-use Rattle.rows.specs.Rows.{grown}
-use Rattle.rows.proofs.Touching.{row-turn, touch-row}
+use Rattle.lists.proofs.Loops.{patch-turn0, patch-in0}
+use Rattle.cache.specs.Ages.{ageOf, mustAfter, mayAfter}
+use Rattle.rows.specs.Rows.{keyBy, mayLimitBy, ageFrom}
 use Rattle.rows.proofs.touch.Statement.{statement}
 use Rattle.rows.proofs.touch.Tie as tie
 
--- The may rule of column j, by its limit.
-abbrev mayLimited : List ℕ → ℕ → ℕ → ℕ → ℕ
-mayLimited columns j = mayGrown (getD columns (2 * mostBlocks + j) 0)
+-- The ages of a row that begins at `base`, after a touch of column m.
+abbrev mustTouched : List ℕ → ℕ → ℕ → List ℕ → ℕ → ℕ
+mustTouched columns m base row = mustAfter (keyBy columns) m (ageFrom base row)
+
+abbrev mayTouched : List ℕ → ℕ → ℕ → List ℕ → ℕ → ℕ
+mayTouched columns m base row = mayAfter (keyBy columns) (mayLimitBy columns) m (ageFrom base row)
 
 abbrev Inv-loop : tie.InvT-loop
-Inv-loop must₀ may₀ columns m h g key j₀ must may j =
-    (j ≤ mostBlocks)
-    × ((length must ≡ length must₀)
-    × ((length may ≡ length may₀)
-    × ((must ≡ patch must₀ 0 j (grown columns m (λ j. mustGrown) must₀))
-    × (may ≡ patch may₀ 0 j (grown columns m (mayLimited columns) may₀)))))
+Inv-loop must may base width columns m musts₀ mays₀ h g key touched-place j₀ musts mays j =
+    (j ≤ width) × ((length musts ≡ length musts₀) × ((length mays ≡ length mays₀)
+    × ((musts ≡ patch musts₀ 0 j (mustTouched columns m base must)) × (mays ≡ patch mays₀ 0 j (mayTouched columns m base may)))))
 
 abbrev μ-loop : tie.MeasureT-loop
-μ-loop must₀ may₀ columns m h g key j₀ must may j = mostBlocks - j
+μ-loop must may base width columns m musts₀ mays₀ h g key touched-place j₀ musts mays j = width - j
 
-slice-read-h : tie.Need-slice-read-h Inv-loop μ-loop
-slice-read-h c = search needs
+add-h : tie.Need-add-h Inv-loop μ-loop
+add-h c = search needs
 
-slice-read-g : tie.Need-slice-read-g Inv-loop μ-loop
-slice-read-g c = search needs
+shared-slice-read-h : tie.Need-shared-slice-read-h Inv-loop μ-loop
+shared-slice-read-h c = search needs
+
+add-g : tie.Need-add-g Inv-loop μ-loop
+add-g c = search needs
+
+shared-slice-read-g : tie.Need-shared-slice-read-g Inv-loop μ-loop
+shared-slice-read-g c = search needs
 
 shared-slice-read-key : tie.Need-shared-slice-read-key Inv-loop μ-loop
 shared-slice-read-key c = search needs
+
+byte-of-requires : tie.Need-byte-of-requires Inv-loop μ-loop
+byte-of-requires c κs = search needs
 
 loop-holds : tie.Need-loop-holds Inv-loop μ-loop
 loop-holds c = search needs
@@ -50,23 +59,38 @@ add-limit c = search needs
 shared-slice-read-limit : tie.Need-shared-slice-read-limit Inv-loop μ-loop
 shared-slice-read-limit c = search needs
 
-slice-read-must-age : tie.Need-slice-read-must-age Inv-loop μ-loop
-slice-read-must-age c = search needs
+byte-of-requires-2 : tie.Need-byte-of-requires-2 Inv-loop μ-loop
+byte-of-requires-2 c κs = search needs
+
+add-must-age : tie.Need-add-must-age Inv-loop μ-loop
+add-must-age c = search needs
+
+shared-slice-read-must-age : tie.Need-shared-slice-read-must-age Inv-loop μ-loop
+shared-slice-read-must-age c = search needs
 
 must-age-requires : tie.Need-must-age-requires Inv-loop μ-loop
 must-age-requires c κs = search needs
 
-slice-write-must : tie.Need-slice-write-must Inv-loop μ-loop
-slice-write-must c = search needs
+touched-requires : tie.Need-touched-requires Inv-loop μ-loop
+touched-requires c κs = search needs
 
-slice-read-may-age : tie.Need-slice-read-may-age Inv-loop μ-loop
-slice-read-may-age c = search needs
+slice-write-musts : tie.Need-slice-write-musts Inv-loop μ-loop
+slice-write-musts c = search needs
+
+add-may-age : tie.Need-add-may-age Inv-loop μ-loop
+add-may-age c = search needs
+
+shared-slice-read-may-age : tie.Need-shared-slice-read-may-age Inv-loop μ-loop
+shared-slice-read-may-age c = search needs
 
 may-age-requires : tie.Need-may-age-requires Inv-loop μ-loop
 may-age-requires c κs = search needs
 
-slice-write-may : tie.Need-slice-write-may Inv-loop μ-loop
-slice-write-may c = search needs
+touched-requires-2 : tie.Need-touched-requires-2 Inv-loop μ-loop
+touched-requires-2 c κs = search needs
+
+slice-write-mays : tie.Need-slice-write-mays Inv-loop μ-loop
+slice-write-mays c = search needs
 
 add-j : tie.Need-add-j Inv-loop μ-loop
 add-j c = search needs
@@ -75,18 +99,26 @@ loop-less : tie.Need-loop-less Inv-loop μ-loop
 loop-less c = search needs
 
 loop-again : tie.Need-loop-again Inv-loop μ-loop
+unfolding mustAfter mayAfter
 loop-again c =
-    let a = c .before .before .before .before .before .before .before .before .before .before .before .before .before .before .args in
-    let l = c .before .before .before .before .before .before .before .loop in
-    let must = row-turn (now (a .columns)) (a .m) (λ j. mustGrown) (a .must .now) _ (l .j) _ (l .inv .1 .1 .1 .0) (c .before .before .must-age .ensures) in
-    let may = row-turn (now (a .columns)) (a .m) (mayLimited (now (a .columns))) (a .may .now) _ (l .j) _ (l .inv .1 .1 .1 .1) (c .may-age .ensures) in
-    (search needs, (search needs, (search needs, (must, may))))
-
-slice-write-must-2 : tie.Need-slice-write-must-2 Inv-loop μ-loop
-slice-write-must-2 c = search needs
-
-slice-write-may-2 : tie.Need-slice-write-may-2 Inv-loop μ-loop
-slice-write-may-2 c = search needs
+    let a = c .before .before .before .before .before .before .before .before .before .before .before .before .before .before .before .before .before .before .before .before .args in
+    let l = c .before .before .before .before .before .before .before .before .before .before .loop in
+    let own = c .before .before .before .before .before .before .before .before .before .before .before .byte-of .ensures in
+    let here = c .before .before .before .before .before .before .byte-of2 .ensures in
+    let must = c .before .before .before .touched .ensures ∙ (λ i. cond (eqb (here i) (own i)) 0 (c .before .before .before .before .must-age .ensures i)) in
+    let may = c .touched2 .ensures ∙ (λ i. cond (eqb (here i) (own i)) 0 (c .before .may-age .ensures i)) in (
+      search needs,
+      (
+        search needs,
+        (
+          search needs,
+          (
+            patch-turn0 (a .musts .now) (l .j) (mustTouched (now (a .columns)) (a .m) (a .base) (now (a .must))) _ _ (l .inv .1 .1 .1 .0) must,
+            patch-turn0 (a .mays .now) (l .j) (mayTouched (now (a .columns)) (a .m) (a .base) (now (a .may))) _ _ (l .inv .1 .1 .1 .1) may,
+          ),
+        ),
+      ),
+    )
 
 same-length : tie.Need-same-length Inv-loop μ-loop
 same-length c = search needs
@@ -95,20 +127,15 @@ same-length-2 : tie.Need-same-length-2 Inv-loop μ-loop
 same-length-2 c = search needs
 
 returns : tie.Need-returns Inv-loop μ-loop
-unfolding touchAges mustAfter mayAfter
 returns c =
-    let s = c .before .before .before .before .before .before .before .before in
-    let a = s .args in
+    let a = c .before .before .before .before .before .before .before .before .before .before .before .args in
     let l = c .before .loop in
-    let must-long : length (a .must .now) ≡ mostBlocks = s .pre .1 .0 in
-    let may-long : length (a .may .now) ≡ mostBlocks = s .pre .1 .1 in
-    let must-end : l .j ≡ length (a .must .now) = omega arith in
-    let may-end : l .j ≡ length (a .may .now) = omega arith in
-    let must = touch-row (now (a .columns)) (a .m) (λ j. mustGrown) (a .must .now) (omega (arith, s .pre .0 .0)) _ _ (l .inv .1 .1 .1 .0) must-end in
-    let may = touch-row (now (a .columns)) (a .m) (mayLimited (now (a .columns))) (a .may .now) (omega (arith, s .pre .0 .0)) _ _ (l .inv .1 .1 .1 .1) may-end in
-    λ i. record {
-      must = (must ∙ ap (λ (n : ℕ). listOf n (mustAfter (λ k. getD (now (a .columns)) k 0) (a .m) (ageOf (a .must .now)))) must-long) i;
-      may = (may ∙ ap (λ (n : ℕ). listOf n (mayAfter (λ k. getD (now (a .columns)) k 0) (λ k. getD (now (a .columns)) (2 * mostBlocks + k) 0) (a .m) (ageOf (a .may .now)))) may-long) i;
+    let end : l .j ≡ a .width = omega arith in
+    record {
+      must = λ j inside. ap (λ (ages : List ℕ). ageOf ages j) (l .inv .1 .1 .1 .0)
+          ∙ patch-in0 (a .musts .now) (l .j) (mustTouched (now (a .columns)) (a .m) (a .base) (now (a .must))) j (omega arith) (omega arith);
+      may = λ j inside. ap (λ (ages : List ℕ). ageOf ages j) (l .inv .1 .1 .1 .1)
+          ∙ patch-in0 (a .mays .now) (l .j) (mayTouched (now (a .columns)) (a .m) (a .base) (now (a .may))) j (omega arith) (omega arith);
     }
 
 pub touch-spec : {M : Type 1} → statement M
@@ -117,24 +144,30 @@ touch-spec =
     (tie.spec
     Inv-loop
     μ-loop
-    slice-read-h
-    slice-read-g
+    add-h
+    shared-slice-read-h
+    add-g
+    shared-slice-read-g
     shared-slice-read-key
+    byte-of-requires
     loop-holds
     shared-slice-read-same
     add-limit
     shared-slice-read-limit
-    slice-read-must-age
+    byte-of-requires-2
+    add-must-age
+    shared-slice-read-must-age
     must-age-requires
-    slice-write-must
-    slice-read-may-age
+    touched-requires
+    slice-write-musts
+    add-may-age
+    shared-slice-read-may-age
     may-age-requires
-    slice-write-may
+    touched-requires-2
+    slice-write-mays
     add-j
     loop-less
     loop-again
-    slice-write-must-2
-    slice-write-may-2
     same-length
     same-length-2
     returns)

@@ -1,5 +1,6 @@
 use borrow.Author.Needs.{needs}
-use Rattle.chart.proofs.Numbers.{one-shifted, one-shifted-pos}
+use Rattle.lists.proofs.Shifts.{one-shifted}
+use Rattle.chart.proofs.Numbers.{one-shifted-pos}
 use Rattle.chart.proofs.words.bits.Statement.{statement}
 use Rattle.chart.proofs.words.bits.Tie as tie
 

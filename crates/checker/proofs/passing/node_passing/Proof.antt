@@ -1,13 +1,8 @@
 use borrow.Author.Needs.{needs}
-use mathlib.Core.Path.{_≡_, sym, subst, _∙_}
 use native.Mathlib.Omega.{arith}
 use denote.Ref.{now}
-use lib.ListN.{length}
-use Rattle.chart.specs.Geometry.{mostBlocks}
-use Rattle.rows.specs.Rows.{columnsBy, afterRecord}
-use Rattle.plan.specs.declared.PlannedNode.{PlannedNode}
-use Rattle.plan.specs.Listed.{nodesIn, blocksIn, RecordIn}
-use Rattle.plan.proofs.Holding.{node-leads, record-in, record-fits}
+use Rattle.plan.specs.Listed.{nodesIn, blocksIn}
+use Rattle.plan.proofs.Holding.{node-leads, record-in}
 use Rattle.tables.specs.Lent.{Lent}
 use Rattle.tables.specs.Inner.{Loads}
 use Rattle.tables.proofs.After.{row-loads}
@@ -19,7 +14,7 @@ use Rattle.checker.proofs.passing.node_passing.Tie as tie
 abbrev lent : tie.Start → Lent
 lent s = record { must = now (s .args .must); may = now (s .args .may); marks = now (s .args .marks) }
 
--- Its row can be loaded.
+-- Its row is there.
 loads : (s : tie.Start) → Loads (now (s .args .columns)) (now (s .args .must)) (now (s .args .may)) (blocksIn (now (s .args .plan))) (s .args .n)
 loads s = row-loads _ _ (s .pre .0) (s .args .n) (s .pre .1 .1) (lent s) (s .pre .1 .0 .must-room) (s .pre .1 .0 .may-room)
 
@@ -47,53 +42,33 @@ returns c =
 node-in-requires : tie.Need-node-in-requires
 node-in-requires c κs = search needs
 
-load-row-requires : tie.Need-load-row-requires
-load-row-requires c κs =
-    let there = rw (← c .before .before .before .before .before .blocks-in .ensures) at (loads (c .before .before .before .before .before .before .before .before .before .before .before)) in
-    omega (arith, there .must-in)
+slice-aggregate-row-after : tie.Need-slice-aggregate-row-after
+slice-aggregate-row-after c = search needs
 
-load-row-requires-2 : tie.Need-load-row-requires-2
-load-row-requires-2 c κs =
-    let there = rw (← c .before .before .before .before .before .before .blocks-in .ensures) at (loads (c .before .before .before .before .before .before .before .before .before .before .before .before)) in
-    omega (arith, there .may-in)
+slice-aggregate-row-after-2 : tie.Need-slice-aggregate-row-after-2
+slice-aggregate-row-after-2 c = search needs
 
-slice-aggregate-step : tie.Need-slice-aggregate-step
-slice-aggregate-step c = search needs
-
-slice-aggregate-step-2 : tie.Need-slice-aggregate-step-2
-slice-aggregate-step-2 c = search needs
-
--- A row is as long as it is.
-must-long : (c : tie.After-load-row) → length (c .load-row .result) ≡ mostBlocks
-must-long c = search needs
-
-may-long : (c : tie.After-load-row2) → length (c .load-row2 .result) ≡ mostBlocks
-may-long c = search needs
-
-step-requires : tie.Need-step-requires
-step-requires c κs =
-    let s = c .before .before .before .before .before .before .before .before .before .before .before .before .before .before .before in
-    let node = c .before .before .before .before .before .node-in in
-    let planned = subst (λ (p : PlannedNode). RecordIn (blocksIn (now (s .args .plan))) (p .what)) (sym (node .ensures)) (record-in _ _ (s .pre .0) (s .args .n) (s .pre .1 .1)) in
-    (s .pre .0 .columns-long, ((must-long (c .before .before .before), may-long (c .before .before)), record-fits (blocksIn (now (s .args .plan))) mostBlocks (s .pre .0 .few-blocks) (node .result .what) planned))
+row-after-requires : tie.Need-row-after-requires
+row-after-requires c κs =
+    let s = c .before .before .before .before .before .before .before .before .before .before .before .before .before in
+    let blocks = c .before .before .before .before .before .before .before .blocks-in in
+    let node = c .before .before .before .node-in in
+    rw (blocks .ensures, node .ensures) (loads s, ((search needs, search needs), record-in _ _ (s .pre .0) (s .args .n) (s .pre .1 .1)))
 
 targets-allow-requires : tie.Need-targets-allow-requires
 targets-allow-requires c κs =
-    let s = c .before .before .before .before .before .before .before .before .before .before .before .before .before .before .before .before .before .before in
-    rw (c .before .before .before .before .before .before .before .before .before .before .before .before .blocks-in .ensures, c .before .before .before .before .before .before .before .before .node-in .ensures) (record { nodes = nodesIn (now (s .args .plan)); few = s .pre .0 .few-blocks; leads = node-leads _ _ (s .pre .0) (s .args .n) (s .pre .1 .1); roomy = s .pre .1 .0 })
+    let s = c .before .before .before .before .before .before .before .before .before .before .before .before .before .before .before .before in
+    rw (c .before .before .before .before .before .before .before .before .before .before .blocks-in .ensures, c .before .before .before .before .before .before .node-in .ensures) (record { nodes = nodesIn (now (s .args .plan)); few = s .pre .0 .few-blocks; leads = node-leads _ _ (s .pre .0) (s .args .n) (s .pre .1 .1); roomy = s .pre .1 .0 })
 
 shared-slice-read-result : tie.Need-shared-slice-read-result
 shared-slice-read-result c =
-    let s = c .before .before .before .before .before .before .before .before .before .before .before .before .before .before .before .before .before .before .before .before in
+    let s = c .before .before .before .before .before .before .before .before .before .before .before .before .before .before .before .before .before .before in
     omega (arith, s .pre .1 .0 .marks-room, s .pre .1 .1)
 
 returns-2 : tie.Need-returns-2
 returns-2 c =
-    let s = c .before .before .before .before .before .before .before .before .before .before .before .before .before .before .before .before .before .before .before .before in
-    let node = c .before .before .before .before .before .before .before .before .before .before .node-in in
-    let stepped = c .before .before .before .before .step .ensures
-    ∙ (λ i. afterRecord (columnsBy (now (s .args .columns)) mostBlocks) (node .result .what) (record { must = c .before .before .before .before .before .before .before .before .load-row .ensures i; may = c .before .before .before .before .before .before .before .load-row2 .ensures i })) in
-    marked-passing (s .pre .0) (lent s) (s .args .n) (c .before .before .before .before .before .before .before .before .before .before .before .before .before .before .blocks-in .ensures) (c .before .before .before .before .before .before .before .before .before .before .before .before .before .row-fits .ensures) (s .pre .1 .1) (s .pre .1 .0) (node .ensures) stepped (c .before .before .before .before .before .before .before .before .before .before .before .if1 .left) (c .before .targets-allow .ensures)
+    let s = c .before .before .before .before .before .before .before .before .before .before .before .before .before .before .before .before .before .before in
+    marked-passing (s .pre .0) (lent s) (s .args .n) (c .before .before .before .before .before .before .before .before .before .before .before .before .blocks-in .ensures) (c .before .before .before .before .before .before .before .before .before .before .before .row-fits .ensures) (s .pre .1 .1) (s .pre .1 .0) (c .before .before .before .before .before .before .before .before .node-in .ensures) _ (c .before .before .before .before .row-after .ensures) (c .before .before .before .before .before .before .before .before .before .if1 .left) (c .before .targets-allow .ensures)
 
 pub node-passing-spec : {M : Type 1} → statement M
 node-passing-spec =
@@ -105,11 +80,9 @@ node-passing-spec =
     row-zero-requires
     returns
     node-in-requires
-    load-row-requires
-    load-row-requires-2
-    slice-aggregate-step
-    slice-aggregate-step-2
-    step-requires
+    slice-aggregate-row-after
+    slice-aggregate-row-after-2
+    row-after-requires
     targets-allow-requires
     shared-slice-read-result
     returns-2)

@@ -4,9 +4,8 @@ use mathlib.Core.Path.{sym, subst}
 use native.Mathlib.Omega.{arith}
 use denote.Ref.{now}
 use lib.ListN.{set, length-set}
-use Rattle.plan.specs.Listed.{planIn}
 use Rattle.keeping.specs.Work.{spanTo}
-use Rattle.keeping.specs.Flood.{Stands}
+use Rattle.keeping.specs.Flood.{AllStand}
 use Rattle.keeping.proofs.Beginning.{entry-stands}
 use Rattle.keeping.proofs.starting.reach.Statement.{statement}
 use Rattle.keeping.proofs.starting.reach.Tie as tie
@@ -25,7 +24,7 @@ add-flood c = search needs
 
 flood-requires : tie.Need-flood-requires
 flood-requires c κs =
-    let s = c .before .before .before .before .before .before .before .before .before in
+    let s = c .before .before .before .before .before .before .before .before .before .before .before in
     let a = s .args in
     let entry = c .before .before .before .entry-in in
     let room = s .pre .1 .0 in (
@@ -35,25 +34,21 @@ flood-requires c κs =
         (
           s .pre .1 .1 .0,
           subst
-              (λ (k : ℕ). Stands (planIn (now (a .columns)) (now (a .plan))) 0 k (record { marks = set (now (a .marks)) k 1; words = now (a .words); due = set (now (a .due)) k 1; span = spanTo (k + 1) }))
+              (λ (k : ℕ). AllStand (now (a .columns)) (now (a .plan)) (now (a .chosen)) k (record { marks = set (now (a .marks)) k 1; words = now (a .words); due = set (now (a .due)) k 1; span = spanTo (k + 1) }))
               (sym (entry .ensures))
-              (entry-stands (now (a .columns)) (now (a .plan)) (s .pre .0) 0 (s .pre .1 .1 .0) (now (a .marks)) (now (a .words)) (now (a .due)) room (s .pre .1 .1 .1)),
+              (λ block inside own. entry-stands (now (a .columns)) (now (a .plan)) (s .pre .0) block inside (now (a .marks)) (now (a .words)) (now (a .due)) room (s .pre .1 .1 .1)),
         ),
       ),
     )
 
 same-length : tie.Need-same-length
-same-length c =
-    let a = c .before .before .before .before .before .before .before .before .before .before .before .before .before .before .before .before .args in
-    omega (arith, c .before .before .before .before .before .before .flood .kept, length-set (now (a .marks)) (c .before .before .before .before .before .before .before .before .before .before .entry-in .result) 1)
+same-length c = omega (arith, c .before .before .before .before .before .before .flood .kept, length-set (now (c .before .before .before .before .before .before .before .before .before .before .before .before .before .before .before .before .before .before .args .marks)) (c .before .before .before .before .before .before .before .before .before .before .entry-in .result) 1)
 
 same-length-2 : tie.Need-same-length-2
 same-length-2 c = search needs
 
 same-length-3 : tie.Need-same-length-3
-same-length-3 c =
-    let a = c .before .before .before .before .before .before .before .before .before .before .before .before .before .before .before .before .args in
-    omega (arith, c .before .before .before .before .before .before .flood .kept, length-set (now (a .due)) (c .before .before .before .before .before .before .before .before .before .before .entry-in .result) 1)
+same-length-3 c = omega (arith, c .before .before .before .before .before .before .flood .kept, length-set (now (c .before .before .before .before .before .before .before .before .before .before .before .before .before .before .before .before .before .before .args .due)) (c .before .before .before .before .before .before .before .before .before .before .entry-in .result) 1)
 
 returns : tie.Need-returns
 returns c = search needs

@@ -3,6 +3,7 @@ use borrow.Author.Tests.{eq-eqb, ne-eqb}
 use mathlib.Core.Path.{ap, _∙_}
 use denote.Ref.{now}
 use Rattle.keeping.specs.Words.{wordTouched, wordAfter}
+use Rattle.keeping.specs.Columns.{groupOf}
 use Rattle.keeping.proofs.words.step_word.Statement.{statement}
 use Rattle.keeping.proofs.words.step_word.Tie as tie
 
@@ -17,30 +18,24 @@ unfolding wordAfter
 returns c = rw (c .enum-told .given .1)
 
 touch-word-requires : tie.Need-touch-word-requires
-touch-word-requires c κs =
-    let s = c .before .before .before .before in
-    (s .pre .0, (s .pre .1 .0, (rw (c .before .planned .given .1) at (s .pre .1 .1)) .0))
+touch-word-requires c κs = (rw (c .before .planned .given .1) at (c .before .before .before .before .before .before .pre)) .0
 
 returns-2 : tie.Need-returns-2
 unfolding wordAfter
 returns-2 c =
-    let s = c .before .before .before .before .before .before in
     let r = c .before .before .before .planned .given .0 .0 in
     rw (c .before .before .before .planned .given .1, eq-eqb (r .lower) (r .upper) (c .if1 .taken)) (c .before .touch-word .ensures)
 
 touch-word-requires-2 : tie.Need-touch-word-requires-2
-touch-word-requires-2 c κs =
-    let s = c .before .before .before .before .before .before in
-    (s .pre .0, (s .pre .1 .0, (rw (c .before .before .before .planned .given .1) at (s .pre .1 .1)) .1))
+touch-word-requires-2 c κs = (rw (c .before .before .before .planned .given .1) at (c .before .before .before .before .before .before .before .before .pre)) .1
 
 returns-3 : tie.Need-returns-3
 unfolding wordAfter
 returns-3 c =
-    let s = c .before .before .before .before .before .before .before in
-    let a = s .args in
+    let a = c .before .before .before .before .before .before .before .before .before .args in
     let r = c .before .before .before .before .planned .given .0 .0 in
     rw (c .before .before .before .before .planned .given .1, ne-eqb (r .lower) (r .upper) (c .before .if1 .left))
-    (c .touch-word2 .ensures ∙ ap (wordTouched (now (a .columns)) (a .block) (r .upper)) (c .before .before .touch-word .ensures))
+    (c .touch-word2 .ensures ∙ ap (wordTouched (groupOf (now (a .columns)) (now (a .chosen)) (now (a .sets))) (r .upper)) (c .before .before .touch-word .ensures))
 
 pub step-word-spec : {M : Type 1} → statement M
 step-word-spec =

@@ -1,6 +1,7 @@
 use borrow.Author.Needs.{needs}
 use Rattle.chart.specs.Geometry.{setOf}
-use Rattle.chart.proofs.Numbers.{one-shifted, one-shifted-pos, none-masked}
+use Rattle.lists.proofs.Shifts.{one-shifted}
+use Rattle.chart.proofs.Numbers.{one-shifted-pos, none-masked}
 use Rattle.chart.proofs.shape.Geometry.set_of.Statement.{statement}
 use Rattle.chart.proofs.shape.Geometry.set_of.Tie as tie
 

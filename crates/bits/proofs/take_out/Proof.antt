@@ -1,0 +1,40 @@
+use borrow.Author.Needs.{needs}
+use mathlib.Core.Path.{ap}
+use Prim.Native.Nat.{ℕ, _/_, _%_}
+use native.Mathlib.Omega.{arith}
+use denote.Ref.{now}
+use lib.Bits.{bitXor}
+use lib.ListN.{getD, set}
+use Rattle.bits.specs.Bits.{withoutMember}
+use Rattle.lists.proofs.Shifts.{one-shifted}
+use Rattle.bits.proofs.take_out.Statement.{statement}
+use Rattle.bits.proofs.take_out.Tie as tie
+
+mul-set : tie.Need-mul-set
+mul-set c = search needs
+
+slice-read-set : tie.Need-slice-read-set
+slice-read-set c = search needs
+
+shl-set : tie.Need-shl-set
+shl-set c = search needs
+
+mul-set-2 : tie.Need-mul-set-2
+mul-set-2 c = search needs
+
+slice-write-set : tie.Need-slice-write-set
+slice-write-set c = search needs
+
+same-length : tie.Need-same-length
+same-length c = search needs
+
+returns : tie.Need-returns
+unfolding withoutMember
+returns c =
+    let a = c .before .args in
+    ap (λ (bit : ℕ). set (now (a .set)) (a .n / 64) (bitXor (getD (now (a .set)) (a .n / 64) 0) bit)) (one-shifted 64 (a .n % 64) (omega arith))
+
+pub take-out-spec : {M : Type 1} → statement M
+take-out-spec =
+    tie.close
+    (tie.spec mul-set slice-read-set shl-set mul-set-2 slice-write-set same-length returns)

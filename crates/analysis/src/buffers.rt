@@ -66,5 +66,5 @@ pub(crate) fn start_table(
     let musts = start.must;
     let mays = start.may;
     clear(plan, must, may, marks);
-    tables::meet_row(must, may, marks, blocks, entry, &musts, &mays, false);
+    tables::meet_row(must, may, marks, blocks, entry, &musts, &mays);
 }

@@ -1,6 +1,6 @@
 -- Laws of sets: who is a member when a number has been put in or taken out, and where the first member of a word stands.
 use mathlib.Core.Bool.{Bool, true, false, cond, not, _||_, true≢false}
-use mathlib.Core.List.{List}
+use mathlib.Core.List.{List, [], _∷_}
 use mathlib.Core.Logic.{⊎-elim}
 use mathlib.Core.Path.{_≡_, refl, sym, ap, subst, _∙_}
 use Prim.Native.Nat.{ℕ, zero, suc, _+_, _-_, _*_, _/_, _%_, _^_, _≤_, _<_, min}
@@ -182,3 +182,12 @@ zeros-at (suc count) (suc k) = zeros-at count k
 pub none-member : (count m : ℕ) → isMember (replicate count 0) m ≡ false
 unfolding isMember
 none-member count m = ap (λ (w : ℕ). isSet w (m % 64)) (zeros-at count (m / 64)) ∙ set-none (m % 64)
+
+-- ---- a set in one word
+
+pub one-word : (word m : ℕ) → m < 64 → isMember (word ∷ []) m ≡ isSet word m
+unfolding isMember
+one-word word m h =
+    let place : m / 64 ≡ 0 = omega arith in
+    let bit : m % 64 ≡ m = omega arith in
+    rw (place, bit)

@@ -4,7 +4,7 @@
 -- (The ages are those of that analysis: `published`, of the definitions in cache/specs/Ages.antt, here over columns whose keys stand for their
 -- blocks' sets, as `keys-sets` and `sets-keys` say, in the shape that the bytes say, `shape-said`. That the analysis is refused only as rule 12.3
 -- lists is `Demand1.readings` and `Demand1.analysis`.)
--- The sets of blocks that stay are worked out and checked one block at a time: a test says yes exactly of the tables of one block that pass their own
+-- The sets of blocks that stay are defined and checked one block at a time: a test says yes exactly of the tables of one block that pass their own
 -- equations (`kept-yes`, `yes-kept`); each block's table settles, passes, is the tightest of those that do, and has what walks do and nothing else
 -- (`kept-settled`).
 -- It speaks of rules 1.2, 2.4, 3.2, 3.3, 4.6, 4.7, 6.2 to 6.6, 7.3, 7.7 to 7.9, 8.1, 9.5, 9.6, 12.2, 12.4, 12.5, 13.1 to 13.3, 16.1 and 16.3 to 16.8. Proved as

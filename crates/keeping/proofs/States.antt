@@ -21,7 +21,7 @@ use Rattle.flow.specs.Walk.{inTurn}
 use Rattle.ages.specs.Plan.{ColumnTouch}
 use Rattle.kept.specs.Since.{Since, isIn, members, untouched, inAfter, touchSince, meetSince, SinceFits}
 use Rattle.bits.specs.Bits.{bitAt, isSet, without}
-use Rattle.keeping.specs.Words.{Group, chosenFor, keyOf, setOf, Grouped, Chosen, sinceIn, wordTouched, wordAfterTouch}
+use Rattle.keeping.specs.Words.{Group, chosenFor, keyOf, setBits, Grouped, Chosen, sinceIn, wordTouched, wordAfterTouch}
 use Rattle.bits.proofs.Bits.{bit-is, set-and, set-or, set-without, set-none, set-one}
 use Rattle.keeping.proofs.Ones.{others-and-own}
 
@@ -113,9 +113,9 @@ module _ (group : Group) (cols : Columns) (keys : (column : ℕ) → column < co
       keep true = refl
       keep false = refl
 
-      go : (t s : Bool) → isSet (cond t (bitOr (without word (setOf group m)) (2 ^ m)) (cond s (bitOr word (2 ^ m)) word)) column ≡ isSet word column
+      go : (t s : Bool) → isSet (cond t (bitOr (without word (setBits group m)) (2 ^ m)) (cond s (bitOr word (2 ^ m)) word)) column ≡ isSet word column
       go true s =
-          rw (set-or (without word (setOf group m)) (2 ^ m) column, set-one m column, other-column, set-without word (setOf group m) column, grouped .sets-are m column there h, ne-eqb (keyOf group column) (keyOf group m) apart, keep (isSet word column))
+          rw (set-or (without word (setBits group m)) (2 ^ m) column, set-one m column, other-column, set-without word (setBits group m) column, grouped .sets-are m column there h, ne-eqb (keyOf group column) (keyOf group m) apart, keep (isSet word column))
           (or-no (isSet word column))
       go false true = rw (set-or word (2 ^ m) column, set-one m column, other-column) (or-no (isSet word column))
       go false false = refl
@@ -129,8 +129,8 @@ module _ (group : Group) (cols : Columns) (keys : (column : ℕ) → column < co
       empties : m ≡ block → isSet after column ≡ eqb column block
       empties e =
           let chosen : eqb (chosenFor group m) m ≡ true = eq-eqb (chosenFor group m) m (ap (chosenFor group) e ∙ own ∙ sym e) in
-          let member : isSet (setOf group m) column ≡ true = grouped .sets-are m column there h ∙ eq-eqb (keyOf group column) (keyOf group m) (same ∙ ap (keyOf group) (sym e)) in
-          (rw (chosen, set-or (without word (setOf group m)) (2 ^ m) column, set-one m column, set-without word (setOf group m) column, member, and-no (isSet word column)))
+          let member : isSet (setBits group m) column ≡ true = grouped .sets-are m column there h ∙ eq-eqb (keyOf group column) (keyOf group m) (same ∙ ap (keyOf group) (sym e)) in
+          (rw (chosen, set-or (without word (setBits group m)) (2 ^ m) column, set-one m column, set-without word (setBits group m) column, member, and-no (isSet word column)))
           ∙ ap (eqb column) e
 
       joins : (m ≡ block → ⊥) → keyOf group m ≡ keyOf group block → isSet after column ≡ (isSet word column || (eqb column m && (isSet word block && true)))
@@ -221,11 +221,11 @@ module _ (group : Group) (cols : Columns) (keys : (column : ℕ) → column < co
   unfolding wordTouched
   touch-small small = go (eqb (chosenFor group m) m) (isSet word (chosenFor group m))
     where
-      less : without word (setOf group m) < 2 ^ cols .count
-      less = xor-lt (cols .count) word (bitAnd word (setOf group m)) small (let l = and-le-l word (setOf group m) in omega arith)
+      less : without word (setBits group m) < 2 ^ cols .count
+      less = xor-lt (cols .count) word (bitAnd word (setBits group m)) small (let l = and-le-l word (setBits group m) in omega arith)
 
-      go : (t s : Bool) → cond t (bitOr (without word (setOf group m)) (2 ^ m)) (cond s (bitOr word (2 ^ m)) word) < 2 ^ cols .count
-      go true s = or-lt (cols .count) (without word (setOf group m)) (2 ^ m) less (pow-lt there)
+      go : (t s : Bool) → cond t (bitOr (without word (setBits group m)) (2 ^ m)) (cond s (bitOr word (2 ^ m)) word) < 2 ^ cols .count
+      go true s = or-lt (cols .count) (without word (setBits group m)) (2 ^ m) less (pow-lt there)
       go false true = or-lt (cols .count) word (2 ^ m) small (pow-lt there)
       go false false = small
 

@@ -25,7 +25,7 @@ use Rattle.plan.proofs.Holding.{touches-held, key-held, may-limit-held, record-
 use Rattle.kept.specs.Since.{Since}
 use Rattle.kept.specs.Kept.{afterTouchOf, sinceOf, sinceAt, staysBy}
 use Rattle.bits.specs.Bits.{isSet}
-use Rattle.keeping.specs.Words.{Group, setOf, Grouped, Chosen, sinceIn, wordTouched, staysIn}
+use Rattle.keeping.specs.Words.{Group, setBits, Grouped, Chosen, sinceIn, wordTouched, staysIn}
 use Rattle.keeping.specs.Columns.{RecordsRead, groupOf}
 use Rattle.keeping.specs.Flood.{tableIn, Flooded, AllFlooded}
 use Rattle.keeping.specs.Telling.{BlockTold, ToldSoFar, NextWanted, toldBy, toldOf, toldAt, toldAll}
@@ -81,13 +81,13 @@ module _ (columns plan : List ℕ) (drawn : Drawn columns plan) where
     -- ---- what a word tells
 
     module _ (block : ℕ) (inside : block < blocksIn plan) (own : Chosen chosen block) where
-      in-its-set : (column : ℕ) → column < blocksIn plan → isSet (setOf group block) column ≡ eqb (columnsOf held .key column) (columnsOf held .key block)
+      in-its-set : (column : ℕ) → column < blocksIn plan → isSet (setBits group block) column ≡ eqb (columnsOf held .key column) (columnsOf held .key block)
       in-its-set column h = grouped .sets-are block column inside h ∙ (λ i. eqb (sym (key-held columns plan column h) i) (sym (key-held columns plan block inside) i))
 
       word-tells : (word : ℕ) → word < 2 ^ blocksIn plan → staysIn group block word ≡ cond (staysBy (planIn columns plan) block (sinceIn (columnsOf held) block word)) 1 0
       unfolding staysIn staysBy
       word-tells word small =
-          let counted = word-members (columnsOf held) block (setOf group block) word in-its-set small inside in
+          let counted = word-members (columnsOf held) block (setBits group block) word in-its-set small inside in
           let limit = may-limit-held columns plan block inside in
           λ i. cond (ltb (sym counted i) (sym limit i)) 1 0
 

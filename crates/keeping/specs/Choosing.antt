@@ -13,7 +13,7 @@ use Rattle.lists.specs.Loops.{patch}
 use Rattle.bits.specs.Bits.{isSet}
 use Rattle.keeping.specs.Words.{Chosen}
 
--- How many set keys there can be: as many as a byte has values.
+-- How many set keys a byte can tell apart: a key is the number of a column, and stands in a list of bytes.
 abbrev pub mostKeys : ℕ
 mostKeys = 256
 

@@ -35,8 +35,8 @@ chosenFor group m = getD (group .chosen) m 0
 abbrev pub keyOf : Group → ℕ → ℕ
 keyOf group m = getD (group .columns) m 0
 
-abbrev pub setOf : Group → ℕ → ℕ
-setOf group m = getD (group .sets) (keyOf group m) 0
+abbrev pub setBits : Group → ℕ → ℕ
+setBits group m = getD (group .sets) (keyOf group m) 0
 
 -- The lists say so of the columns below a count.
 pub record Grouped (count : ℕ) (group : Group) : Type 0 where
@@ -45,7 +45,7 @@ pub record Grouped (count : ℕ) (group : Group) : Type 0 where
   pub chosen-key : (m : ℕ) → m < count → keyOf group (chosenFor group m) ≡ keyOf group m
   pub chosen-same : (m k : ℕ) → m < count → k < count → keyOf group m ≡ keyOf group k → chosenFor group m ≡ chosenFor group k
   pub sets-room : (m : ℕ) → m < count → keyOf group m < length (group .sets)
-  pub sets-are : (m column : ℕ) → m < count → column < count → isSet (setOf group m) column ≡ eqb (keyOf group column) (keyOf group m)
+  pub sets-are : (m column : ℕ) → m < count → column < count → isSet (setBits group m) column ≡ eqb (keyOf group column) (keyOf group m)
 
 -- A block is one of those that share words; and what is so of each of them.
 abbrev pub Chosen : List ℕ → ℕ → Type 0
@@ -66,7 +66,7 @@ sinceIn columns block word =
 -- set, if that is touched.
 unfoldable pub wordTouched : Group → ℕ → ℕ → ℕ
 wordTouched group m word =
-    cond (eqb (chosenFor group m) m) (bitOr (without word (setOf group m)) (2 ^ m))
+    cond (eqb (chosenFor group m) m) (bitOr (without word (setBits group m)) (2 ^ m))
     (cond (isSet word (chosenFor group m)) (bitOr word (2 ^ m)) word)
 
 -- Rules 16.3 and 16.4: the word after a node's touches, in turn.
@@ -79,7 +79,7 @@ wordAfter group planned word = inTurn (wordAfterTouch group) (touchesBy planned)
 -- Rule 8.1: whether fewer are in the set than the limit of the block's column; 1 where it is so.
 unfoldable pub staysIn : Group → ℕ → ℕ → ℕ
 staysIn group block word =
-    cond (ltb (ones (bitAnd word (setOf group block)) - bitAt (bitAnd word (setOf group block)) block) (getD (group .columns) (2 * mostBlocks + block) 0)) 1 0
+    cond (ltb (ones (bitAnd word (setBits group block)) - bitAt (bitAnd word (setBits group block)) block) (getD (group .columns) (2 * mostBlocks + block) 0)) 1 0
 
 -- Whether a record touches one of the blocks.
 abbrev pub touchesChosen : List ℕ → PlannedRecord → Bool

@@ -18,7 +18,7 @@ use crate::starting::reach;
 use crate::telling::tell_chosen;
 use chart::Geometry;
 
-// How many set keys there can be: as many as a byte has values.
+// How many set keys a byte can tell apart.
 const KEYS: usize = 256;
 
 // The first block from `from` on that is wanted and below `blocks`; `blocks` where there is none.
@@ -26,14 +26,8 @@ fn next_wanted(wanted: u64, from: usize, blocks: usize) -> usize
     requires { ⌜ blocks ≤ mostBlocks ⌝ }
     ensures { λ r. ⌜ NextWanted wanted from blocks r ⌝ }
 {
-    let mut block = from;
-    while block < blocks {
-        if (wanted >> block) % 2 == 1 {
-            return block;
-        }
-        block += 1;
-    }
-    blocks
+    let words = [wanted];
+    bits::first_from(&words, from, blocks)
 }
 
 // Tells of the blocks from `from` on that are left, where all others that are wanted are told of and the nodes that can be reached are marked.

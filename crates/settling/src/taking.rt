@@ -33,7 +33,7 @@ fn send_to<'a>(
     requires { ⌜ (t < nodes) × SetFor nodes due ⌝ }
     ensures { λ r. ⌜ exitDue must may marks due r ≡ sentTo blocks (entryAges musts mays) t (entryDue must may marks due changed) ⌝ }
 {
-    let met = tables::meet_row(must, may, marks, blocks, t, musts, mays, false);
+    let met = tables::meet_row(must, may, marks, blocks, t, musts, mays);
     if met {
         bits::put(due, t);
         return true;

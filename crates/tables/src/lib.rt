@@ -1,6 +1,7 @@
 // Rows of a table in lent buffers: told as they are after a record (rules 3.3 and 6.3 to 6.5), filled, or met into what is there (rules 6.6 and 9.4).
 // None of the functions refuses: callers keep that the places lie within the buffers. Nothing is written into a table but the places that are named, and
 // the mark of a row that is met into.
+ghost use mathlib.Core.Bool.{false};
 ghost use mathlib.Core.Path.{_≡_};
 ghost use Prim.Native.Nat.{_+_, _*_, _≤_, _<_, max, min};
 ghost use lib.ListN.{length};
@@ -183,7 +184,7 @@ fn put_smaller(buffer: &mut [u8], base: usize, blocks: usize, ages: &[u8], chang
 }
 
 // Meets ages into row n: it keeps the larger must ages and the smaller may ages; without a mark it takes the ages as they are, and the mark.
-// Answers true if `changed` was, or if anything is a change by rule 9.4.
+// Answers whether anything is a change by rule 9.4.
 pub fn meet_row(
     must: &mut [u8],
     may: &mut [u8],
@@ -192,11 +193,10 @@ pub fn meet_row(
     n: usize,
     musts: &[u8],
     mays: &[u8],
-    changed: bool,
 ) -> bool
     requires { ⌜ (blocks ≤ length (now musts)) × ((blocks ≤ length (now mays)) × (n < length (now marks))) ⌝ }
     requires { ⌜ (n * blocks + blocks ≤ length (now must)) × (n * blocks + blocks ≤ length (now may)) ⌝ }
-    ensures { λ r. ⌜ exitRun must may marks r ≡ metInto blocks n (entryAges musts mays) (entryRun must may marks changed) ⌝ }
+    ensures { λ r. ⌜ exitRun must may marks r ≡ metInto blocks n (entryAges musts mays) (entryRun must may marks false) ⌝ }
 {
     let base = n * blocks;
     if marks[n] == 0 {
@@ -205,6 +205,6 @@ pub fn meet_row(
         marks[n] = 1;
         return true;
     }
-    let grown = put_larger(must, base, blocks, musts, changed);
+    let grown = put_larger(must, base, blocks, musts, false);
     put_smaller(may, base, blocks, mays, grown)
 }

@@ -1,7 +1,7 @@
 /* Veilbuzz for C: does a memory reference always hit the cache, always miss, miss once at the most, or can it not be told?
  *
  * Link with the archive that tests/archive makes:  cc -Iinclude mine.c "$(tests/archive)/libboundary.a"
- * examples/loop.c and examples/make.c are whole programs; docs/HEX.md has the chart's bits, docs/REFUSALS.md each
+ * examples/loop.c, examples/make.c and examples/deadline.c are whole programs; docs/HEX.md has the chart's bits, docs/REFUSALS.md each
  * refusal at length.
  *
  * What the functions answer and leave is proved of their source, for any bytes and any lengths: each ends, and writes only what is said
@@ -11,10 +11,13 @@
  *
  * What a caller has to keep, since C cannot say it:
  *   - behind each pointer there are as many elements as the length after it says, set to something and aligned: uint16_t to 2 bytes,
- *     uint32_t to 4, uint64_t to 8. Where the length is 0 nothing is looked at, and the pointer may be NULL;
+ *     uint32_t to 4, uint64_t and double to 8. Where the length is 0 nothing is looked at, and the pointer may be NULL;
  *   - a buffer that is written overlaps no other of the same call; those that are only read may overlap. Where it does overlap, nothing is
  *     promised: what is answered and left may be anything, and passes may go on for the whole allowance;
- *   - while a call runs, nobody else writes to what it was lent, and nobody else reads what it writes.
+ *   - while a call runs, nobody else writes to what it was lent, and nobody else reads what it writes;
+ *   - veilbuzz_deadline, which alone has floating-point numbers, finds the settings that a C program starts with: what is rounded goes to
+ *     the nearest number, and to the even one of two that are as near; subnormal numbers are not taken for 0; and no exception traps,
+ *     though flags may be raised. With -ffast-math or -Ofast, even if the linker alone is given it, a whole program can start otherwise.
  * Costs and bounds have 16 bits: C cuts a larger number without a word, unless -Wconversion is given. All numbers that veilbuzz_write takes
  * have 64 bits, more than any field of a chart: one that is too large for its field arrives whole, and is refused and not cut.
  *
@@ -24,11 +27,15 @@
 #ifndef VEILBUZZ_H
 #define VEILBUZZ_H
 
+#include <float.h>
 #include <stddef.h>
 #include <stdint.h>
 
 #if SIZE_MAX != UINT64_MAX
 #error "Veilbuzz is for machines with a size_t of 64 bits"
+#endif
+#if FLT_RADIX != 2 || DBL_MANT_DIG != 53
+#error "Veilbuzz is for machines whose double is binary64 of IEEE 754"
 #endif
 
 #ifdef __cplusplus
@@ -49,8 +56,9 @@ enum {
 
 /* An answer: numbers, in these places of `answer`. The first two are the same for every function; what comes after them is a function's
  * own, and is 0 after a refusal, 12 apart. A longer `answer` keeps its tail. Where `answer` is shorter than its function's answer, the
- * `header` of veilbuzz_read shorter than a header, or the `fields` of veilbuzz_node shorter than a node's, the function does nothing: it
- * returns 11, whatever else might be refused, and nothing that was lent has changed, neither of these lists nor any other buffer. */
+ * `header` of veilbuzz_read shorter than a header, the `fields` of veilbuzz_node shorter than a node's, or the `figures` of
+ * veilbuzz_deadline shorter than two figures, the function does nothing: it returns 11, whatever else might be refused, and nothing that
+ * was lent has changed, neither of these lists nor any other buffer. */
 enum {
     VEILBUZZ_ANSWER_NUMBER = 0, /* the refusal's number, 0 for none; also what the function returns */
     VEILBUZZ_ANSWER_PLACE = 1,  /* the node at fault for refusals 9, 10, 16 and 17, else 0 */
@@ -86,6 +94,10 @@ enum {
     VEILBUZZ_TOTAL_HIGH = 3, /* the high total */
     VEILBUZZ_TOTAL_LENGTH = 4
 };
+enum {
+    VEILBUZZ_DEADLINE_MET = 2, /* 1 where the deadline is met */
+    VEILBUZZ_DEADLINE_LENGTH = 3
+};
 
 /* The header that veilbuzz_read tells: six numbers, in these places of `header`. A longer one keeps its tail. */
 enum {
@@ -107,6 +119,20 @@ enum {
     VEILBUZZ_FIELDS_FIRST = 4,   /* the node that the first arrow leads to; 0 where there is none */
     VEILBUZZ_FIELDS_SECOND = 5,  /* that of the second, likewise */
     VEILBUZZ_FIELDS_LENGTH = 6
+};
+
+/* The figures that veilbuzz_deadline tells: two numbers of microseconds, in these places of `figures`. A longer one keeps its tail. */
+enum {
+    VEILBUZZ_FIGURES_LOW = 0,  /* that of the low total */
+    VEILBUZZ_FIGURES_HIGH = 1, /* that of the high total */
+    VEILBUZZ_FIGURES_LENGTH = 2
+};
+
+/* Which deadline it is that veilbuzz_deadline is given, and which of its two limits are looked at. */
+enum {
+    VEILBUZZ_DEADLINE_NONE = 0,   /* no deadline; neither */
+    VEILBUZZ_DEADLINE_LATEST = 1, /* a latest time; `latest` alone */
+    VEILBUZZ_DEADLINE_WINDOW = 2  /* an earliest and a latest time; both */
 };
 
 /* What the cache holds when a walk begins. */
@@ -145,10 +171,10 @@ enum {
     VEILBUZZ_CLASS_KEPT = 5       /* the touch hits, but for one at most of those of its block that are called so */
 };
 
-/* The refusals, rules 11.1 to 11.17 of docs/RULES.md, looked for one after another as they stand here; what is found first is given. Only
- * whether `answer`, `header` and `fields` are too short is looked at before all others. Where several nodes are at fault, the first one is
- * told. What veilbuzz_write is given is a chart's fields and not its bytes, so that 1, 2 and 7 cannot apply; 3 to 6, 9 and 10 it gives as
- * veilbuzz_read does, with the same place, and so too where a number is too large for its field.
+/* The refusals, rules 11.1 to 11.18 of docs/RULES.md, looked for one after another as they stand here; what is found first is given. Only
+ * whether `answer`, `header`, `fields` and `figures` are too short is looked at before all others. Where several nodes are at fault, the
+ * first one is told. What veilbuzz_write is given is a chart's fields and not its bytes, so that 1, 2 and 7 cannot apply; 3 to 6, 9 and 10
+ * it gives as veilbuzz_read does, with the same place, and so too where a number is too large for its field.
  *
  *   no.  given if                                               place        what to do
  *    1   the chart has fewer than 8 bytes                       0            give the whole file
@@ -168,13 +194,17 @@ enum {
  *        node, in node order, that brings the first too many
  *   11   a buffer has fewer places than are used, and is        0            lend N, 2 * N, B, N * B or 8 + 8 * N elements, as said
  *        neither floors, ceilings nor one of the six lists                   below, and the lengths named above for `answer`,
- *        that veilbuzz_write is given                                        `header` and `fields`
+ *        that veilbuzz_write is given                                        `header`, `fields` and `figures`
  *   12   every pass of the allowance has changed something      0            allow VEILBUZZ_ENOUGH_PASSES
  *   13   the table does not pass                                0            lend the one that veilbuzz_analyse wrote
  *   14   there are not just N floors, or not just N ceilings    0            one number for each node
  *   15   the miss cost is below the hit cost                    0            swap them, if they were swapped
  *   16   a floor is above its ceiling                           that node    mend that node's two bounds
  *   17   a floor above 0 stands at a node without a mark        that node    no walk comes there: make it 0
+ *   18   the times are impossible: a period of 0; a period,     0            give finite times of 0 and more, in microseconds, and a
+ *        an overhead, or a limit that is looked at, which is                 period above 0: 8 MHz is 0.125; swap a window's limits,
+ *        a NaN, infinite or below 0; a window whose latest                   if they were swapped
+ *        time is before its earliest; no such kind
  */
 
 /* Reads a chart, as a caller does first who wants to know N and B: refusals 1 to 10, and 11 for `header` and `answer`. Where none of them
@@ -257,6 +287,31 @@ uint64_t veilbuzz_total(const uint8_t *chart, size_t chart_length,
                         const uint16_t *floors, size_t floors_length,
                         const uint16_t *ceilings, size_t ceilings_length,
                         uint64_t *answer, size_t answer_length);
+
+/* Whether the two totals, in microseconds, meet a deadline: refusals 1 to 11 and 13 to 17 as veilbuzz_total gives them, and after them 18.
+ * `hit` and `miss` count cycles. The clock sheet is `period`, how long a cycle takes, and `overhead`, what is added once, both in
+ * microseconds; totals are of touches, so all else that takes time has to be in the overhead. A figure is a total times the period, rounded,
+ * and that plus the overhead, rounded once more (rule 17.3): two roundings of binary64 to the nearest, ties to even, which are never fused
+ * to one. A total is below 2^53, and so it is a double as it stands. Where the period is a power of two from 2^-30 to 1 the product is
+ * exact: 411 cycles at 8 MHz, a period of 0.125, take 51.375. Elsewhere each rounding can put a figure up or down by half of the last place
+ * that a double has, and so can the period itself: 0.1 is no double.
+ * Without a deadline it is always met; a latest time is met where the high figure is no more than `latest`; a window where also the low one
+ * is no less than `earliest` (rule 17.4). What it returns is 0 for a deadline that is met and for one that is not:
+ * answer[VEILBUZZ_DEADLINE_MET] alone tells them apart. The low and the high figure are told in the first two places of `figures`; after a
+ * refusal both are 0.0. No figure is a NaN or below 0; one that is too large for a double is infinity, which is after any latest time.
+ * -0.0 is 0: as a period it is refused, as an overhead or a limit it is not. The table is read as veilbuzz_check reads it. It writes
+ * `figures` and `answer` alone. */
+uint64_t veilbuzz_deadline(const uint8_t *chart, size_t chart_length,
+                           const uint8_t *must, size_t must_length,
+                           const uint8_t *may, size_t may_length,
+                           const uint8_t *marks, size_t marks_length,
+                           uint16_t hit, uint16_t miss,
+                           const uint16_t *floors, size_t floors_length,
+                           const uint16_t *ceilings, size_t ceilings_length,
+                           double period, double overhead,
+                           uint64_t kind, double earliest, double latest,
+                           double *figures, size_t figures_length,
+                           uint64_t *answer, size_t answer_length);
 
 #ifdef __cplusplus
 }

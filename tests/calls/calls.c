@@ -2,19 +2,20 @@
  *
  *     record 40000 >cases && calls <cases
  *
- * It knows nothing of charts. A case is the function's number, the numbers that it takes, the one to be returned, and then each buffer, in
- * the order of the parameters: whether it is read, written or not even looked at, its element's size, the byte that its filling begins with,
- * its length, how much of it is used, and the used part (after the call where it is written, else before it). Each buffer is lent in memory
- * of just its size, and one of no size as NULL. */
+ * It knows nothing of charts. A case is the function's number, the numbers that it takes, of a double its bits, the one to be returned, and
+ * then each buffer, in the order of the parameters: whether it is read, written or not even looked at, its element's size, the byte that
+ * its filling begins with, its length, how much of it is used, and the used part (after the call where it is written, else before it). Each
+ * buffer is lent in memory of just its size, and one of no size as NULL. */
 #include <stdio.h>
 #include <stdlib.h>
+#include <string.h>
 
 #include "veilbuzz.h"
 #include "watched.h"
 
-enum function { READ = 1, ANALYSE, CHECK, TOTAL, NODE, BLOCKS, WRITE };
+enum function { READ = 1, ANALYSE, CHECK, TOTAL, NODE, BLOCKS, WRITE, DEADLINE };
 enum access { READS, WRITES, IGNORES };
-enum { MOST_NUMBERS = 6, MOST_BUFFERS = 8, SHOWN = 10 };
+enum { MOST_NUMBERS = 7, MOST_BUFFERS = 8, SHOWN = 10 };
 
 struct buffer {
     int access;
@@ -25,8 +26,8 @@ struct buffer {
 };
 
 /* As many as a function's parameters have. */
-static const size_t number_counts[] = {0, 0, 1, 0, 2, 1, 0, 6};
-static const size_t buffer_counts[] = {0, 3, 7, 5, 7, 3, 3, 8};
+static const size_t number_counts[] = {0, 0, 1, 0, 2, 1, 0, 6, 7};
+static const size_t buffer_counts[] = {0, 3, 7, 5, 7, 3, 3, 8, 8};
 
 static unsigned long cases, differences;
 
@@ -109,6 +110,13 @@ static void compare(const struct buffer *buffer, size_t number) {
     free(buffer->known);
 }
 
+/* The double that has these bits. */
+static double of(uint64_t bits) {
+    double number;
+    memcpy(&number, &bits, sizeof number);
+    return number;
+}
+
 static uint64_t call(int function, const uint64_t *n, const struct buffer *b) {
     switch (function) {
     case READ:
@@ -126,6 +134,10 @@ static uint64_t call(int function, const uint64_t *n, const struct buffer *b) {
         return veilbuzz_node(b[0].lent, b[0].length, (size_t)n[0], b[1].lent, b[1].length, b[2].lent, b[2].length);
     case BLOCKS:
         return veilbuzz_blocks(b[0].lent, b[0].length, b[1].lent, b[1].length, b[2].lent, b[2].length);
+    case DEADLINE:
+        return veilbuzz_deadline(b[0].lent, b[0].length, b[1].lent, b[1].length, b[2].lent, b[2].length, b[3].lent, b[3].length,
+                                 (uint16_t)n[0], (uint16_t)n[1], b[4].lent, b[4].length, b[5].lent, b[5].length, of(n[2]), of(n[3]), n[4],
+                                 of(n[5]), of(n[6]), b[6].lent, b[6].length, b[7].lent, b[7].length);
     default:
         return veilbuzz_write(n[0], n[1], n[2], n[3], n[4], n[5], b[0].lent, b[0].length, b[1].lent, b[1].length, b[2].lent, b[2].length,
                               b[3].lent, b[3].length, b[4].lent, b[4].length, b[5].lent, b[5].length, b[6].lent, b[6].length, b[7].lent,
@@ -153,7 +165,7 @@ static void make_call(int function) {
 int main(void) {
     uint8_t function;
     while (fread(&function, 1, 1, stdin) == 1) {
-        if (function < READ || function > WRITE)
+        if (function < READ || function > DEADLINE)
             stop("there is no such function");
         make_call(function);
         cases++;

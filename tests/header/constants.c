@@ -11,6 +11,7 @@ static uint32_t blocks[VEILBUZZ_MOST_BLOCKS];
 static uint8_t must[VEILBUZZ_MOST_AGES], may[VEILBUZZ_MOST_AGES];
 static uint8_t marks[VEILBUZZ_MOST_NODES], classes[VEILBUZZ_MOST_CLASSES];
 static uint64_t header[VEILBUZZ_HEADER_LENGTH], fields[VEILBUZZ_FIELDS_LENGTH], answer[VEILBUZZ_LONGEST_ANSWER];
+static double figures[VEILBUZZ_FIGURES_LENGTH];
 static uint64_t lists[VEILBUZZ_FIELDS_LENGTH][VEILBUZZ_MOST_NODES]; /* of each field, as veilbuzz_write takes them */
 static uint8_t written[VEILBUZZ_LONGEST_CHART];
 static int wrong;
@@ -22,6 +23,13 @@ static void is(const char *what, uint64_t told, uint64_t expected) {
     }
 }
 #define IS(what, expected) is(#what, (what), (expected))
+
+static uint64_t bits(double number) {
+    uint64_t bits;
+    memcpy(&bits, &number, sizeof bits);
+    return bits;
+}
+#define IS_JUST(what, expected) is("of " #what " what stands in its 64 bits", bits(what), bits(expected))
 
 /* Eight bytes, the most significant first. */
 static void word(size_t place, uint64_t value) {
@@ -66,6 +74,13 @@ static uint64_t analyse(size_t nodes, size_t allowance) {
                             sizeof marks, classes, sizeof classes, answer, VEILBUZZ_LONGEST_ANSWER);
 }
 
+/* The verdict on the seven nodes below, a hit for 1 and a miss for 10, by a sheet of which neither number is taken for the other. */
+static uint64_t judge(const uint16_t *floors, const uint16_t *ceilings, uint64_t kind, double earliest, double latest) {
+    IS(veilbuzz_deadline(chart, 64, must, 14, may, 14, marks, 7, 1, 10, floors, 7, ceilings, 7, 0.5, 3, kind, earliest, latest, figures,
+                         VEILBUZZ_FIGURES_LENGTH, answer, VEILBUZZ_LONGEST_ANSWER), 0);
+    return answer[VEILBUZZ_DEADLINE_MET];
+}
+
 /* The class of a node's first touch, 0, or second, 1. */
 static uint8_t class_of(size_t n, size_t touch) {
     return classes[VEILBUZZ_MOST_TOUCHES * n + touch];
@@ -99,6 +114,21 @@ static void answers(void) {
     IS(veilbuzz_total(chart, 64, must, 14, may, 14, marks, 7, 1, 10, floors, 7, ceilings, 7, answer, VEILBUZZ_LONGEST_ANSWER), 0);
     IS(answer[VEILBUZZ_TOTAL_LOW], 12);
     IS(answer[VEILBUZZ_TOTAL_HIGH], 29);
+    IS(judge(floors, ceilings, VEILBUZZ_DEADLINE_NONE, -1, -1), 1); /* what is refused where it is looked at */
+    IS_JUST(figures[VEILBUZZ_FIGURES_LOW], 12 * 0.5 + 3);
+    IS_JUST(figures[VEILBUZZ_FIGURES_HIGH], 29 * 0.5 + 3);
+    IS(judge(floors, ceilings, VEILBUZZ_DEADLINE_LATEST, -1, 17.5), 1);
+    IS(judge(floors, ceilings, VEILBUZZ_DEADLINE_LATEST, -1, 17.25), 0);
+    IS(judge(floors, ceilings, VEILBUZZ_DEADLINE_WINDOW, 9, 17.5), 1);
+    IS(judge(floors, ceilings, VEILBUZZ_DEADLINE_WINDOW, 9.25, 17.5), 0);
+    IS(judge(floors, ceilings, VEILBUZZ_DEADLINE_WINDOW, 9, 17.25), 0);
+    IS(veilbuzz_deadline(chart, 64, must, 14, may, 14, marks, 7, 1, 10, floors, 7, ceilings, 7, 0.5, 3, VEILBUZZ_DEADLINE_WINDOW, 17.5, 9,
+                         figures, VEILBUZZ_FIGURES_LENGTH, answer, VEILBUZZ_LONGEST_ANSWER), 18);
+    IS(answer[VEILBUZZ_ANSWER_NUMBER], 18);
+    IS(answer[VEILBUZZ_ANSWER_PLACE], 0);
+    IS(answer[VEILBUZZ_DEADLINE_MET], 0);
+    IS_JUST(figures[VEILBUZZ_FIGURES_LOW], 0.0);
+    IS_JUST(figures[VEILBUZZ_FIGURES_HIGH], 0.0);
     chart[8 * (3 + 1) + 7] = 1; /* a size at node 3, a bare step */
     IS(read_chart(7), 9);
     IS(answer[VEILBUZZ_ANSWER_NUMBER], 9);
@@ -227,7 +257,7 @@ static void touches(void) {
 static void lengths(void) {
     static const uint16_t times[] = {1, 0, 0, 0, 1, 1, 1};
     static const uint64_t each[] = {VEILBUZZ_READ_LENGTH,    VEILBUZZ_NODE_LENGTH,  VEILBUZZ_BLOCKS_LENGTH, VEILBUZZ_WRITE_LENGTH,
-                                    VEILBUZZ_ANALYSE_LENGTH, VEILBUZZ_CHECK_LENGTH, VEILBUZZ_TOTAL_LENGTH};
+                                    VEILBUZZ_ANALYSE_LENGTH, VEILBUZZ_CHECK_LENGTH, VEILBUZZ_TOTAL_LENGTH,  VEILBUZZ_DEADLINE_LENGTH};
     uint64_t longest = 0;
     size_t less, fewer, k;
     seven(VEILBUZZ_START_EMPTY);
@@ -252,6 +282,14 @@ static void lengths(void) {
             IS(fields[VEILBUZZ_FIELDS_LENGTH - 1], short_of ? UINT64_MAX : 0);
             IS(answer[0], short_of ? UINT64_MAX : 0);
             IS(answer[VEILBUZZ_NODE_LENGTH - 1], short_of ? UINT64_MAX : 1);
+            memset(figures, 0xFF, sizeof figures);
+            memset(answer, 0xFF, sizeof answer);
+            IS(veilbuzz_deadline(chart, 64, must, 14, may, 14, marks, 7, 1, 10, times, 7, times, 7, 0.5, 3, VEILBUZZ_DEADLINE_NONE, 0, 0,
+                                 figures, VEILBUZZ_FIGURES_LENGTH - less, answer, VEILBUZZ_DEADLINE_LENGTH - fewer), short_of ? 11 : 0);
+            IS(bits(figures[0]), short_of ? UINT64_MAX : bits(9));
+            IS(bits(figures[VEILBUZZ_FIGURES_LENGTH - 1]), short_of ? UINT64_MAX : bits(13.5));
+            IS(answer[0], short_of ? UINT64_MAX : 0);
+            IS(answer[VEILBUZZ_DEADLINE_LENGTH - 1], short_of ? UINT64_MAX : 1);
         }
         memset(answer, 0xFF, sizeof answer);
         memset(blocks, 0xFF, sizeof blocks);

@@ -46,7 +46,7 @@ impl Analysis {
         })
     }
 
-    /// The table, to be lent to [`check`](crate::check) or [`total`](crate::total).
+    /// The table, to be lent to [`check`](crate::check), [`total`](crate::total) or [`deadline`](crate::deadline).
     pub fn table(&self) -> Table<'_> {
         Table {
             must: &self.must,

@@ -4,8 +4,8 @@
 //! each gives the answer that the rules (docs/RULES.md) define, writes only what is said here, and ends. The cover itself is ordinary Rust.
 //!
 //! [`Analysis::of`] is the short way to a chart's classes, [`chart_of`] to a chart and [`fields_of`] back from it, with buffers of their
-//! own. [`read`], [`node`], [`blocks`], [`write`], [`analyse`], [`check`] and [`total`] are the seven functions with buffers that the caller
-//! lends. `examples/loop.rs` and `examples/make.rs` are whole programs.
+//! own. [`read`], [`node`], [`blocks`], [`write`], [`analyse`], [`check`], [`total`] and [`deadline`] are the eight functions with buffers
+//! that the caller lends. `examples/loop.rs`, `examples/make.rs` and `examples/deadline.rs` are whole programs.
 //!
 //! The archive that is linked, libboundary.a, is looked for in the folder that VEILBUZZ_ARCHIVE names, or else in target/archive;
 //! `tests/archive` makes it and prints its folder.
@@ -19,6 +19,7 @@ mod answer;
 mod blocks;
 mod check;
 mod class;
+mod deadline;
 mod limits;
 mod node;
 mod parts;
@@ -33,6 +34,7 @@ pub use analysis::Analysis;
 pub use blocks::blocks;
 pub use check::{check, Table};
 pub use class::Class;
+pub use deadline::{deadline, ClockSheet, Deadline, Judged};
 pub use limits::{AGES, BLOCKS, CLASSES, LONGEST, NODES, PASSES, TOUCHES, WAYS};
 pub use node::{node, Fields};
 pub use parts::{chart_of, fields_of};

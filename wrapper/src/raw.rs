@@ -3,10 +3,11 @@
 //!
 //! What a caller has to keep: behind each pointer there are as many elements as the length after it says, aligned for their type and set
 //! to something, and where the length is 0 the pointer may be null; a buffer that is written overlaps no other of the same call; while a
-//! call runs, nobody else writes to what it was lent, and nobody else reads what it writes.
+//! call runs, nobody else writes to what it was lent, and nobody else reads what it writes. The floating-point settings that the header asks
+//! for are those that Rust itself asks of a program.
 //!
-//! A function that is lent fewer places for its answer than it has numbers, or for a header or a node's fields, returns 11 and does nothing
-//! else.
+//! A function that is lent fewer places for its answer than it has numbers, or for a header, a node's fields or the figures, returns 11 and
+//! does nothing else.
 
 /// In every answer: the refusal's number, 0 for none; also what the function returns.
 pub const NUMBER: usize = 0;
@@ -51,6 +52,19 @@ pub const TOTAL_LOW: usize = 2;
 pub const TOTAL_HIGH: usize = 3;
 /// How many numbers its answer has.
 pub const TOTAL_LENGTH: usize = 4;
+
+/// `veilbuzz_deadline`: 1 if the deadline is met, 0 if not.
+pub const DEADLINE_MET: usize = 2;
+/// How many numbers its answer has.
+pub const DEADLINE_LENGTH: usize = 3;
+
+/// The kinds of a deadline, of which the second looks at `latest` and the third at `earliest` too.
+pub const DEADLINE_NONE: u64 = 0;
+pub const DEADLINE_LATEST: u64 = 1;
+pub const DEADLINE_WINDOW: u64 = 2;
+
+/// How many figures there are: the low one and the high one, in this order.
+pub const FIGURES_LENGTH: usize = 2;
 
 /// How many numbers a header has: L, S, A, the start code, N and the entry, in this order.
 pub const HEADER_LENGTH: usize = 6;
@@ -158,6 +172,32 @@ extern "C" {
         floors_length: usize,
         ceilings: *const u16,
         ceilings_length: usize,
+        answer: *mut u64,
+        answer_length: usize,
+    ) -> u64;
+
+    pub fn veilbuzz_deadline(
+        chart: *const u8,
+        chart_length: usize,
+        must: *const u8,
+        must_length: usize,
+        may: *const u8,
+        may_length: usize,
+        marks: *const u8,
+        marks_length: usize,
+        hit: u16,
+        miss: u16,
+        floors: *const u16,
+        floors_length: usize,
+        ceilings: *const u16,
+        ceilings_length: usize,
+        period: f64,
+        overhead: f64,
+        kind: u64,
+        earliest: f64,
+        latest: f64,
+        figures: *mut f64,
+        figures_length: usize,
         answer: *mut u64,
         answer_length: usize,
     ) -> u64;

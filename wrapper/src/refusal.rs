@@ -2,10 +2,10 @@ use crate::{BLOCKS, NODES, PASSES};
 use std::error::Error;
 use std::fmt;
 
-/// A refusal, one of rules 11.1 to 11.17. Its text says what was found and what to do.
+/// A refusal, one of rules 11.1 to 11.18. Its text says what was found and what to do.
 #[derive(Clone, Copy, Debug, PartialEq, Eq)]
 pub struct Refusal {
-    /// 1 to 17.
+    /// 1 to 18.
     pub number: usize,
     /// The node at fault for 9, 10, 16 and 17, else 0.
     pub place: usize,
@@ -17,7 +17,7 @@ impl Refusal {
 }
 
 /// What each number says and what to do, from 1 on. The names of limits stand for their numbers.
-const WORDS: [[&str; 2]; 17] = [
+const WORDS: [[&str; 2]; 18] = [
     ["the chart has fewer than 8 bytes", "give the whole file"],
     ["the edition is not 1", "the first byte has to be 01"],
     [
@@ -56,6 +56,10 @@ const WORDS: [[&str; 2]; 17] = [
     [
         "a floor above 0 stands at a node without a mark",
         "no walk comes there: make it 0",
+    ],
+    [
+        "the times are impossible: the period is 0, a time is below 0 or not finite, or a window ends before it begins",
+        "give times in microseconds, of 8 MHz a period of 0.125; swap the window's limits, if they were swapped",
     ],
 ];
 

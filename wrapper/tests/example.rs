@@ -42,3 +42,9 @@ fn the_loop_prints_its_classes_and_its_totals() {
 fn a_chart_that_is_made_prints_what_the_c_example_prints() {
     assert_eq!(printed("make"), include_str!("../../examples/make.stdout"));
 }
+
+#[test]
+fn the_deadline_prints_what_the_c_example_prints() {
+    // the C example has the bytes of the two charts in itself
+    assert_eq!(printed("deadline"), include_str!("../../examples/deadline.stdout"));
+}

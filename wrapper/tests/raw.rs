@@ -41,16 +41,16 @@ fn tells<const NUMBERS: usize>(numbers: [u64; NUMBERS], call: impl Fn(*mut u64, 
     }
 }
 
-/// Holds a function that answers in so many places to the six numbers of another list, or to none of them, for lists of every length:
-/// without room in both, to 11 and lists as they were.
-fn tells_six(needed: usize, number: u64, six: &[u64], call: impl Fn(&mut [u64], *mut u64, usize) -> u64) {
+/// Holds a function that needs so many places in another list, and in its answer, to the numbers of that list, or to none of them, for
+/// lists of every length: without room in both, to 11 and lists as they were.
+fn tells_beside(needed: [usize; 2], number: u64, beside: &[u64], call: impl Fn(&mut [u64], *mut u64, usize) -> u64) {
     for (length, places) in LENGTHS.flat_map(|length| LENGTHS.map(move |places| (length, places))) {
         let (mut other, mut answer) = (list(length), list(places));
         let returned = call(&mut other, answer.as_mut_ptr(), places);
-        if length < 6 || places < needed {
+        if length < needed[0] || places < needed[1] {
             assert_eq!((returned, other, answer), (NO_ROOM, list(length), list(places)));
         } else {
-            assert_eq!((returned, other), (number, told(length, six)));
+            assert_eq!((returned, other), (number, told(length, beside)));
             assert_eq!(answer[raw::NUMBER], number);
         }
     }
@@ -82,7 +82,8 @@ fn read_tells_the_number_of_blocks() {
 fn read_tells_six_numbers_of_a_header_and_does_nothing_without_room_for_them() {
     let bytes = chart();
     for (chart, number, six) in [(&bytes[..], 0, &[4, 0, 2, 0, 4, 0][..]), (&bytes[..39], 8, &[])] {
-        tells_six(raw::READ_LENGTH, number, six, |header, answer, length| {
+        let needed = [raw::HEADER_LENGTH, raw::READ_LENGTH];
+        tells_beside(needed, number, six, |header, answer, length| {
             read(chart, header, answer, length)
         });
     }
@@ -123,7 +124,8 @@ fn node_tells_six_fields_and_does_nothing_without_room_for_them() {
         (&bytes, NODES, 0, &[]),
         (&bytes[..39], 1, 8, &[]),
     ] {
-        tells_six(raw::NODE_LENGTH, number, six, |fields, answer, length| {
+        let needed = [raw::FIELDS_LENGTH, raw::NODE_LENGTH];
+        tells_beside(needed, number, six, |fields, answer, length| {
             node(chart, n, fields, answer, length)
         });
     }
@@ -292,4 +294,96 @@ fn total_tells_low_and_high() {
         total(&[1, 2, 3, 0], answer, length)
     });
     tells([17, 3, 0, 0], |answer, length| total(&[1, 2, 3, 4], answer, length));
+}
+
+/// The deadline of the same totals by a sheet of which neither number is taken for the other, with figures as their bits.
+fn deadline(
+    floors: &[u16],
+    (kind, earliest, latest): (u64, f64, f64),
+    figures: &mut [u64],
+    answer: *mut u64,
+    length: usize,
+) -> u64 {
+    let (chart, lent, ceilings) = (chart(), Lent::settled(), [10, 20, 60_000, 9]);
+    unsafe {
+        raw::veilbuzz_deadline(
+            chart.as_ptr(),
+            chart.len(),
+            lent.must.as_ptr(),
+            lent.must.len(),
+            lent.may.as_ptr(),
+            lent.may.len(),
+            lent.marks.as_ptr(),
+            lent.marks.len(),
+            3,
+            1000,
+            floors.as_ptr(),
+            floors.len(),
+            ceilings.as_ptr(),
+            ceilings.len(),
+            0.125,
+            2.0,
+            kind,
+            earliest,
+            latest,
+            figures.as_mut_ptr().cast(),
+            figures.len(),
+            answer,
+            length,
+        )
+    }
+}
+
+const LOW: f64 = 4.25;
+const HIGH: f64 = 22_762.5;
+
+/// Deadlines with whether they are met, for each kind; what is not looked at would else be refused.
+const MET: [((u64, f64, f64), u64); 6] = [
+    ((raw::DEADLINE_NONE, f64::NAN, -1.0), 1),
+    ((raw::DEADLINE_LATEST, f64::NAN, HIGH), 1),
+    ((raw::DEADLINE_LATEST, -1.0, LOW), 0),
+    ((raw::DEADLINE_WINDOW, LOW, HIGH), 1),
+    ((raw::DEADLINE_WINDOW, HIGH, HIGH), 0),
+    ((raw::DEADLINE_WINDOW, LOW, LOW), 0),
+];
+
+/// A window the wrong way round, and kinds that there are not.
+const IMPOSSIBLE: [(u64, f64, f64); 4] = [
+    (raw::DEADLINE_WINDOW, HIGH, LOW),
+    (3, LOW, HIGH),
+    (1 << 32, LOW, HIGH),
+    (u64::MAX, LOW, HIGH),
+];
+
+#[test]
+fn deadline_tells_whether_it_is_met() {
+    let tells = |floors: &[u16], given, numbers| {
+        tells(numbers, |answer, length| {
+            deadline(floors, given, &mut [0; 2], answer, length)
+        });
+    };
+    for (given, met) in MET {
+        tells(&[1, 2, 3, 0], given, [0, 0, met]);
+    }
+    for given in IMPOSSIBLE {
+        tells(&[1, 2, 3, 0], given, [18, 0, 0]);
+        tells(&[1, 2, 3, 4], given, [17, 3, 0]);
+    }
+}
+
+#[test]
+fn deadline_tells_two_figures_and_does_nothing_without_room_for_them() {
+    let tells = |floors: &[u16], given, number, figures: [f64; 2]| {
+        let needed = [raw::FIGURES_LENGTH, raw::DEADLINE_LENGTH];
+        tells_beside(needed, number, &figures.map(f64::to_bits), |figures, answer, length| {
+            deadline(floors, given, figures, answer, length)
+        });
+    };
+    for (given, _) in MET {
+        tells(&[1, 2, 3, 0], given, 0, [LOW, HIGH]);
+        tells(&[1, 2, 3, 4], given, 17, [0.0; 2]);
+    }
+    for given in IMPOSSIBLE {
+        tells(&[1, 2, 3, 0], given, 18, [0.0; 2]);
+    }
 }

@@ -1,37 +1,24 @@
 //! `total`: each cost and each bound counts where its name says, each length counts, and nothing is written.
 
 mod lent;
+mod question;
 
 use charts::{Chart, Record};
-use lent::{chart, Lent, AGES, NODES};
+use lent::{AGES, NODES};
+use question::{Question, HIGH, LOW};
 use veilbuzz::{total, Analysis, Bounds, Costs, Refusal, Totals};
-
-/// What the totals are asked with. Of the settled table two references are kept, of a block each, then one hits, and the last is unreached.
-#[derive(Clone, Debug, PartialEq)]
-struct Question {
-    chart: Vec<u8>,
-    lent: Lent,
-    costs: Costs,
-    floors: Vec<u16>,
-    ceilings: Vec<u16>,
-}
 
 /// The answer after a change, and that all is left as it was lent.
 fn after(change: impl Fn(&mut Question)) -> Result<Totals, Refusal> {
-    let mut question = Question {
-        chart: chart(),
-        lent: Lent::settled(),
-        costs: Costs { hit: 3, miss: 1000 },
-        floors: vec![1, 2, 3, 0],
-        ceilings: vec![10, 20, 60_000, 9],
-    };
+    let mut question = Question::fresh();
     change(&mut question);
     let before = question.clone();
-    let bounds = Bounds {
-        floors: &question.floors,
-        ceilings: &question.ceilings,
-    };
-    let answer = total(&question.chart, question.lent.table(), question.costs, bounds);
+    let answer = total(
+        &question.chart,
+        question.lent.table(),
+        question.costs,
+        question.bounds(),
+    );
     assert_eq!(question, before);
     answer
 }
@@ -42,8 +29,7 @@ fn refusal(number: usize, place: usize) -> Result<Totals, Refusal> {
 
 #[test]
 fn the_totals_are_the_sums() {
-    let (low, high) = (3 * (1 + 2 + 3), 3 * (10 + 20 + 60_000) + 2 * (1000 - 3));
-    assert_eq!(after(|_| ()), Ok(Totals { low, high }));
+    assert_eq!(after(|_| ()), Ok(Totals { low: LOW, high: HIGH }));
 }
 
 #[test]

@@ -27,6 +27,11 @@ fn a_refusal_says_its_number_its_place_what_was_found_and_what_to_do() {
         refusal(17, 5),
         "refused 17 at 5: a floor above 0 stands at a node without a mark (no walk comes there: make it 0)"
     );
+    assert_eq!(
+        refusal(18, 0),
+        "refused 18 at 0: the times are impossible: the period is 0, a time is below 0 or not finite, or a window ends before \
+         it begins (give times in microseconds, of 8 MHz a period of 0.125; swap the window's limits, if they were swapped)"
+    );
 }
 
 #[test]
@@ -39,7 +44,7 @@ fn the_limits_stand_in_the_words() {
 
 #[test]
 fn each_refusal_has_words_of_its_own() {
-    let mut words: Vec<String> = (1..=17)
+    let mut words: Vec<String> = (1..=18)
         .map(|number| {
             let text = refusal(number, 0);
             let (_, words) = text.split_once(": ").expect("there are words");
@@ -48,7 +53,7 @@ fn each_refusal_has_words_of_its_own() {
         .collect();
     words.sort();
     words.dedup();
-    assert_eq!(words.len(), 17);
+    assert_eq!(words.len(), 18);
 }
 
 #[test]

@@ -3,10 +3,12 @@ use Prim.Native.Nat.{ℕ, _≤_, _<_}
 use mathlib.Core.Bool.{true, false, _||_}
 use mathlib.Core.Path.{_≡_, refl}
 use mathlib.Core.List.{List, [], _∷_}
-use borrow.Author.Tests.{lt-ltb, le-ltb}
+use native.Mathlib.Omega.{arith}
+use borrow.Author.Tests.{lt-ltb, le-ltb, ne-eqb}
+use lib.Ieee.{Float, lt, eq}
 use lib.ListN.{length}
 use Rattle.lists.specs.Lists.{written}
-use Rattle.lists.proofs.Choice.{false-or, true-or}
+use Rattle.lists.proofs.Choice.{or-always, false-or, true-or}
 use Rattle.chart.specs.declared.headers.Start.the-variants.{Unknown, Empty}
 use Rattle.chart.specs.declared.headers.Header.{Header}
 use Rattle.chart.specs.declared.readings.Verdict.the-variants.{Accepted, Refused}
@@ -21,6 +23,9 @@ use Rattle.fields.specs.declared.NodeRead.the-variants.{Refused as NodeRefused}
 use Rattle.fields.specs.Fields.{NodeSaid, BlocksSaid, fieldNumbers}
 use Rattle.writer.specs.Taken.{headingOf}
 use Rattle.writer.specs.Writer.{WroteSaid}
+use Rattle.clock.specs.declared.ClockSheet.{ClockSheet}
+use Rattle.clock.specs.Clock.{zeroTime, improper, impossible}
+use Rattle.boundary.specs.Timed.{wrongWayRound, deadlineGiven}
 use Rattle.boundary.specs.Told.{short, readNumbers, analysedNumbers, checkedNumbers, totalsNumbers, wroteNumbers, nodeNumbers, blocksNumbers, headingGiven, headerTold, fieldsTold}
 use Rattle.analysis.specs.Analysis.{AnalysedSaid}
 use Rattle.boundary.specs.Sounded.{sample, places, ToldSounded}
@@ -84,21 +89,32 @@ no-node-told lent = refl
 no-fields-told : (refusal : Refusal) (lent : List ℕ) → fieldsTold (NodeRefused refusal) lent ≡ lent
 no-fields-told refusal lent = refl
 
+-- A kind above 2 is none of the three, and the window from 1 to 0 that it gives is refused.
+refused-whatever : (sheet : ClockSheet) → impossible sheet wrongWayRound ≡ true
+unfolding lt improper
+refused-whatever sheet = or-always (eq (sheet .period) zeroTime || improper (sheet .period) || improper (sheet .overhead))
+
+other-given : (kind : ℕ) (earliest latest : Float) (sheet : ClockSheet) → 2 < kind → impossible sheet (deadlineGiven kind earliest latest) ≡ true
+other-given kind earliest latest sheet h =
+    rw (ne-eqb kind 0 (omega arith), ne-eqb kind 1 (omega arith), ne-eqb kind 2 (omega arith)) (refused-whatever sheet)
+
 -- A list with just as many places or more is not short, and one with fewer is.
-room : (answer : List ℕ) (places : ℕ) → places ≤ length answer → short answer places ≡ false
-room answer places h = le-ltb (length answer) places h
+room : {X : Type 0} (list : List X) (places : ℕ) → places ≤ length list → short list places ≡ false
+room list places h = le-ltb (length list) places h
 
-no-room : (answer : List ℕ) (places : ℕ) → length answer < places → short answer places ≡ true
-no-room answer places h = lt-ltb (length answer) places h
+no-room : {X : Type 0} (list : List X) (places : ℕ) → length list < places → short list places ≡ true
+no-room list places h = lt-ltb (length list) places h
 
-both-room : (one other : List ℕ) → 6 ≤ length one → 3 ≤ length other → (short one 6 || short other 3) ≡ false
-both-room one other h k = false-or (short one 6) (short other 3) (room one 6 h) (room other 3 k)
+-- The same of two lists, the second of three places.
+module _ {X : Type 0} (places : ℕ) (one : List X) (other : List ℕ) where
+  both-room : places ≤ length one → 3 ≤ length other → (short one places || short other 3) ≡ false
+  both-room h k = false-or (short one places) (short other 3) (room one places h) (room other 3 k)
 
-first-short : (one other : List ℕ) → length one < 6 → (short one 6 || short other 3) ≡ true
-first-short one other h = rw (no-room one 6 h)
+  first-short : length one < places → (short one places || short other 3) ≡ true
+  first-short h = rw (no-room one places h)
 
-second-short : (one other : List ℕ) → length other < 3 → (short one 6 || short other 3) ≡ true
-second-short one other h = true-or (short one 6) (short other 3) (λ _. no-room other 3 h)
+  second-short : length other < 3 → (short one places || short other 3) ≡ true
+  second-short h = true-or (short one places) (short other 3) (λ _. no-room other 3 h)
 
 pub told-sounded : ToldSounded
 told-sounded =
@@ -122,9 +138,18 @@ told-sounded =
       node-fields-told = node-fields-told;
       no-node-told = no-node-told;
       no-fields-told = no-fields-told;
-      read-room = both-room;
-      header-short = first-short;
-      read-short = second-short;
+      sheet-given = λ period overhead. refl;
+      none-given = λ earliest latest. refl;
+      latest-given = λ earliest latest. refl;
+      window-given = λ earliest latest. refl;
+      other-given = other-given;
+      judged-told = λ said. refl;
+      met-figures-told = λ low high lent. refl;
+      not-met-figures-told = λ low high lent. refl;
+      no-figures-told = λ refusal lent. refl;
+      read-room = λ one other. both-room 6 one other;
+      header-short = λ one other. first-short 6 one other;
+      read-short = λ one other. second-short 6 one other;
       analysed-room = λ answer h. room answer 4 h;
       analysed-short = λ answer h. no-room answer 4 h;
       checked-room = λ answer h. room answer 3 h;
@@ -135,13 +160,17 @@ told-sounded =
       wrote-short = λ answer h. no-room answer 3 h;
       blocks-room = λ answer h. room answer 3 h;
       blocks-short = λ answer h. no-room answer 3 h;
-      node-room = both-room;
-      fields-short = first-short;
-      node-short = second-short;
+      node-room = λ one other. both-room 6 one other;
+      fields-short = λ one other. first-short 6 one other;
+      node-short = λ one other. second-short 6 one other;
+      judged-room = λ figures answer. both-room 2 figures answer;
+      figures-short = λ figures answer. first-short 2 figures answer;
+      judged-short = λ figures answer. second-short 2 figures answer;
       short-returns = λ number. refl;
       short-leaves = λ numbers lent. refl;
       room-returns = λ number. refl;
       room-tells = λ numbers lent. refl;
+      figures-left = λ before after. (refl, refl);
       lists-left = λ before after. (refl, refl);
       buffers-left = λ before after. (refl, refl);
     }

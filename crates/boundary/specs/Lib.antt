@@ -1,2 +1,3 @@
 pub mod Told
+pub mod Timed
 pub mod Sounded

@@ -1,6 +1,6 @@
 -- Soundings of what callers in other languages are told: each answer's numbers in their order; a header whose numbers are all different, so that
 -- no two can change places; lists with and without room for them, where one place fewer than an answer has is too few, and just as many are
--- enough; and what is left of all that is lent, whatever it held. Nothing here is a rule of the tool: it is what rule 12.9 comes to.
+-- enough; and what is left of all that is lent, whatever it held. Nothing here is a rule of the tool: it is what rules 12.8, 12.9 and 17.6 come to.
 use Prim.Native.Nat.{ℕ, _+_, _≤_, _<_}
 use mathlib.Core.Bool.{true, false}
 use mathlib.Core.Path.{_≡_}
@@ -23,6 +23,14 @@ use Rattle.fields.specs.declared.NodeRead.the-variants.{Refused as NodeRefused}
 use Rattle.fields.specs.Fields.{NodeSaid, BlocksSaid, fieldNumbers}
 use Rattle.writer.specs.Taken.{headingOf}
 use Rattle.writer.specs.Writer.{WroteSaid}
+use lib.Ieee.{Float}
+use Rattle.clock.specs.declared.ClockSheet.{ClockSheet}
+use Rattle.clock.specs.declared.Deadline.the-variants.{None, Latest, Window}
+use Rattle.clock.specs.Clock.{zeroTime, impossible}
+use Rattle.deadline.specs.declared.Judged.the-variants.{Met, NotMet}
+use Rattle.deadline.specs.declared.Judged.the-variants.{Refused as JudgedRefused}
+use Rattle.deadline.specs.Deadline.{JudgedSaid}
+use Rattle.boundary.specs.Timed.{sheetGiven, deadlineGiven, judgedNumbers, figuresTold, judgedShort}
 use Rattle.boundary.specs.Told.{returned, left, told, readNumbers, analysedNumbers, checkedNumbers, totalsNumbers, wroteNumbers, nodeNumbers, blocksNumbers, headingGiven, headerTold, fieldsTold, readShort, analysedShort, checkedShort, totalsShort, wroteShort, blocksShort, nodeShort}
 
 -- Lines of 2^5 bytes, 2^3 sets, 2 ways, nine nodes, entry 7.
@@ -33,7 +41,7 @@ sample start = record { geometry = record { line = 5; sets = 3; ways = 2 }; star
 abbrev pub places : ℕ → List ℕ
 places count = listOf count (λ k. 9 + k)
 
--- Rule 12.9, answer by answer.
+-- Rules 12.9 and 17.6, answer by answer.
 pub record ToldSounded : Type 0 where
   pub empty-told : headerNumbers (sample Empty) ≡ 5 ∷ 3 ∷ 2 ∷ 1 ∷ 9 ∷ 7 ∷ []
   pub unknown-told : headerNumbers (sample Unknown) ≡ 5 ∷ 3 ∷ 2 ∷ 0 ∷ 9 ∷ 7 ∷ []
@@ -59,6 +67,17 @@ pub record ToldSounded : Type 0 where
   pub node-fields-told : (fields : RecordFields) (lent : List ℕ) → fieldsTold (Node fields) lent ≡ written (fieldNumbers fields) lent
   pub no-node-told : (lent : List ℕ) → fieldsTold NoNode lent ≡ lent
   pub no-fields-told : (refusal : Refusal) (lent : List ℕ) → fieldsTold (NodeRefused refusal) lent ≡ lent
+  -- a sheet's two numbers, and a deadline by its kind: what a kind has not is not looked at, and another kind is refused whatever the sheet
+  pub sheet-given : (period overhead : Float) → sheetGiven period overhead ≡ record { period = period; overhead = overhead }
+  pub none-given : (earliest latest : Float) → deadlineGiven 0 earliest latest ≡ None
+  pub latest-given : (earliest latest : Float) → deadlineGiven 1 earliest latest ≡ Latest latest
+  pub window-given : (earliest latest : Float) → deadlineGiven 2 earliest latest ≡ Window earliest latest
+  pub other-given : (kind : ℕ) (earliest latest : Float) (sheet : ClockSheet) → 2 < kind → impossible sheet (deadlineGiven kind earliest latest) ≡ true
+  pub judged-told : (said : JudgedSaid) → judgedNumbers said ≡ said .number ∷ said .place ∷ said .met ∷ []
+  -- the two figures go over the start of their list, the low one first, and are 0 after a refusal
+  pub met-figures-told : (low high : Float) (lent : List Float) → figuresTold (Met low high) lent ≡ written (low ∷ high ∷ []) lent
+  pub not-met-figures-told : (low high : Float) (lent : List Float) → figuresTold (NotMet low high) lent ≡ written (low ∷ high ∷ []) lent
+  pub no-figures-told : (refusal : Refusal) (lent : List Float) → figuresTold (JudgedRefused refusal) lent ≡ written (zeroTime ∷ zeroTime ∷ []) lent
   -- a function's lists are too short for its answer exactly where one of them has fewer places than it needs
   pub read-room : (header answer : List ℕ) → 6 ≤ length header → 3 ≤ length answer → readShort header answer ≡ false
   pub header-short : (header answer : List ℕ) → length header < 6 → readShort header answer ≡ true
@@ -76,11 +95,15 @@ pub record ToldSounded : Type 0 where
   pub node-room : (fields answer : List ℕ) → 6 ≤ length fields → 3 ≤ length answer → nodeShort fields answer ≡ false
   pub fields-short : (fields answer : List ℕ) → length fields < 6 → nodeShort fields answer ≡ true
   pub node-short : (fields answer : List ℕ) → length answer < 3 → nodeShort fields answer ≡ true
+  pub judged-room : (figures : List Float) (answer : List ℕ) → 2 ≤ length figures → 3 ≤ length answer → judgedShort figures answer ≡ false
+  pub figures-short : (figures : List Float) (answer : List ℕ) → length figures < 2 → judgedShort figures answer ≡ true
+  pub judged-short : (figures : List Float) (answer : List ℕ) → length answer < 3 → judgedShort figures answer ≡ true
   -- without room 11 is returned, whatever the answer would be, and all is left as it was; with room the answer's number, a list keeps its tail, and
   -- what else is lent is left as the work leaves it
   pub short-returns : (number : ℕ) → returned true number ≡ 11
   pub short-leaves : (numbers lent : List ℕ) → told true numbers lent ≡ lent
   pub room-returns : (number : ℕ) → returned false number ≡ number
   pub room-tells : (numbers lent : List ℕ) → told false numbers lent ≡ written numbers lent
+  pub figures-left : (before after : List Float) → (left true before after ≡ before) × (left false before after ≡ after)
   pub lists-left : (before after : List ℕ) → (left true before after ≡ before) × (left false before after ≡ after)
   pub buffers-left : (before after : Buffers) → (left true before after ≡ before) × (left false before after ≡ after)

@@ -25,7 +25,7 @@ use Rattle.writer.specs.declared.heading.Heading.{Heading}
 use Rattle.writer.specs.Writer.{WroteSaid}
 
 -- Rules 11.11 and 12.9: a lent list has fewer places than there are numbers to tell in it.
-abbrev pub short : List ℕ → ℕ → Bool
+abbrev pub short : {X : Type 0} → List X → ℕ → Bool
 short lent places = ltb (length lent) places
 
 -- Rule 12.9: what is returned, 11 or the number of the answer.

@@ -5,6 +5,7 @@ use Rattle.demands.proofs.Analysing.{analysis-refusals, same-lengths}
 use Rattle.demands.proofs.Checking.{checker-refusals, checker-used}
 use Rattle.demands.proofs.Writing.{writer-refusals, fields-refusals}
 use Rattle.demands.proofs.Totalling.{totals-refusals, totals-numbers, totals-refusal, totals-used}
+use Rattle.demands.proofs.Judging.{judged-refusals, judged-used}
 use Rattle.demands.proofs.Numbers.{header-numbers, reading-numbers, analysis-numbers, checker-numbers, header-refusal, reading-refusal, analysis-refusal, analysis-refused, analysis-unsettled, checker-refusal}
 
 pub demand1 : Demand1
@@ -14,6 +15,7 @@ demand1 =
       analysis = λ bytes chart allowance lent read. analysis-refusals bytes chart allowance lent read;
       checker = λ bytes chart table read. checker-refusals bytes chart table read;
       totalling = λ bytes chart table figures read. totals-refusals bytes chart table figures read;
+      judging = λ bytes table figures sheet deadline. judged-refusals bytes table figures sheet deadline;
       fields = fields-refusals;
       writing = writer-refusals;
       header-numbers = header-numbers;
@@ -31,4 +33,5 @@ demand1 =
       same-lengths = same-lengths;
       checker-used = λ bytes chart one other read same. checker-used bytes chart one other read same;
       totals-used = λ bytes chart one other figures read same. totals-used bytes chart one other figures read same;
+      judged-used = judged-used;
     }

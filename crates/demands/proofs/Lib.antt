@@ -4,6 +4,7 @@ pub mod Numbers
 pub mod Checking
 pub mod Analysing
 pub mod Totalling
+pub mod Judging
 pub mod Truth
 pub mod Keeping
 pub mod Unkept
@@ -16,6 +17,7 @@ pub mod RoundTrip
 pub mod Demand1
 pub mod Demand2
 pub mod Demand3
+pub mod OnTime
 pub mod Demands
 pub mod Anywhere
 pub mod Leaving

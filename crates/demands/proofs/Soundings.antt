@@ -1,6 +1,6 @@
 -- The definitions give the numbers that are asked for: the starred soundings under one claim; the loop's report whole; a damaged chart's refusals;
 -- and what each of five mistakes would read instead.
-use Prim.Native.Nat.{ℕ, zero, suc, _≤_, _<_}
+use Prim.Native.Nat.{ℕ, zero, suc, _^_, _≤_, _<_}
 use mathlib.Core.List.{_∷_}
 use lib.ListN.{getD, length}
 use native.Mathlib.Omega.{arith}
@@ -18,6 +18,10 @@ use Rattle.chart.proofs.Sounded.{chart-sounded}
 use Rattle.fields.specs.Fields.{nodeRead}
 use Rattle.fields.proofs.Sounded.{fields-sounded}
 use Rattle.writer.proofs.Sounded.{writer-sounded}
+use Rattle.clock.proofs.Sounded.{clock-sounded}
+use lib.Ieee.{ofBits, toBits, ofInt, mul, add, lt, le, eq}
+use Rattle.clock.specs.Clock.{figureOf, improper}
+use Rattle.deadline.specs.Deadline.{judgedBy, judged}
 use Rattle.chart.specs.Chart.{touches, firstBroken, firstOverfull, readChart}
 use Rattle.cache.specs.Plain.{has, without, touchSet, ageIn, hits, touch, Different, AllOf}
 use Rattle.cache.specs.Ages.{mustGrown, mayGrown, mustAfter, mayAfter, sameAges, touchAges, meetAges, startAges}
@@ -42,9 +46,10 @@ use Rattle.demands.proofs.Leaving.{leaving}
 use Rattle.demands.proofs.Paying.{paying}
 use Rattle.demands.proofs.Taking.{taking}
 use Rattle.demands.proofs.Sets.{sets}
-use Rattle.demands.specs.Soundings.{starred, loopFigures, tenTurns}
+use Rattle.demands.specs.Soundings.{loop, starred, loopFigures, tenTurns}
 use Rattle.demands.specs.Refused.{damaged, unanalysed}
 use Rattle.demands.specs.Tabled.{unchecked, looser, untotalled, summed}
+use Rattle.demands.specs.Timely.{timely}
 use Rattle.demands.specs.Corners.{corners, unknownStart, strangers}
 use Rattle.demands.specs.Shared.{sharedSoundings, shapeSoundings}
 use Rattle.demands.specs.Edges.{leftBehind, edges, elevenSteps, elevenReport}
@@ -53,11 +58,13 @@ use Rattle.demands.specs.Staying.{stayingPasses, staying, stayingPaid, s
 use Rattle.demands.specs.Mistakes.{right, mistaken}
 use Rattle.demands.specs.Examples.{examples}
 use Rattle.demands.specs.Charts.{loopChart}
+use Rattle.cache.specs.Plain.{emptyCache}
+use Rattle.demands.specs.Demand3.{OnWalk}
 use Rattle.demands.specs.Sounded.{Sounded}
 
 -- All that has to be seen through for a definition to compute.
 all-unfolded : Unit {0}
-unfolding readingOf wordAt blockOf setOf shapeAllowed recordKeeps recordOf arrowsOf touchesOf gathered overfull placeIn firstBroken firstOverfull readChart has without touchSet ageIn hits touch mustGrown mayGrown mustAfter mayAfter sameAges touchAges meetAges startAges met changes metAt put putAll takeWith takeNode takeNodes pass before afterPasses settleFrom settle classBy members untouched inAfter touchSince meetSince sameSince keptTable staysBy keptCharge finish analysed passing checkedBy checked totalBy totals report refuses nodeRead
+unfolding readingOf wordAt blockOf setOf shapeAllowed recordKeeps recordOf arrowsOf touchesOf gathered overfull placeIn firstBroken firstOverfull readChart has without touchSet ageIn hits touch mustGrown mayGrown mustAfter mayAfter sameAges touchAges meetAges startAges met changes metAt put putAll takeWith takeNode takeNodes pass before afterPasses settleFrom settle classBy members untouched inAfter touchSince meetSince sameSince keptTable staysBy keptCharge finish analysed passing checkedBy checked totalBy totals ofBits toBits ofInt mul add lt le eq figureOf improper judgedBy judged report refuses nodeRead
 all-unfolded = tt
 
 pub loop-nodes : headerIn loopChart .nodes ≡ 3
@@ -75,6 +82,19 @@ no-more zero h = omega arith
 no-more (suc zero) h = omega arith
 no-more (suc (suc zero)) h = omega arith
 no-more (suc (suc (suc n))) h = absurd (omega arith)
+
+-- The loop's figures have 16 bits, whichever node is asked for.
+loop-floors : (n : ℕ) → getD (loopFigures .floors) n 0 < 2 ^ 16
+loop-floors zero = omega arith
+loop-floors (suc zero) = omega arith
+loop-floors (suc (suc zero)) = omega arith
+loop-floors (suc (suc (suc n))) = omega arith
+
+loop-ceilings : (n : ℕ) → getD (loopFigures .ceilings) n 0 < 2 ^ 16
+loop-ceilings zero = omega arith
+loop-ceilings (suc zero) = omega arith
+loop-ceilings (suc (suc zero)) = omega arith
+loop-ceilings (suc (suc (suc n))) = omega arith
 
 starred-hold : Hold starred
 unfolding all-unfolded
@@ -115,6 +135,10 @@ looser-hold = refl
 summed-hold : Hold summed
 unfolding all-unfolded
 summed-hold = refl
+
+timely-hold : Hold timely
+unfolding all-unfolded
+timely-hold = refl
 
 shared-hold : Hold sharedSoundings
 unfolding all-unfolded
@@ -184,22 +208,35 @@ strangers-formed = record { short = short; different = different; own = own }
     own zero = (refl, (refl, tt))
     own (suc set) = tt
 
+ten-turns : OnWalk loopChart loop emptyCache tenTurns
+unfolding all-unfolded
+ten-turns =
+    record {
+      read = refl;
+      begins = λ set. refl;
+      walk = (inl refl, (inl refl, (inl refl, (inl refl, (inl refl, (inl refl, (inl refl, (inl refl, (inl refl, (inl refl, (inr (inl refl), tt)))))))))));
+    }
+
 pub sounded : Sounded
 unfolding all-unfolded
 sounded =
     record {
       starred-hold = starred-hold;
-      ten-turns-walk = record {
-        read = refl;
-        begins = λ set. refl;
-        walk = (inl refl, (inl refl, (inl refl, (inl refl, (inl refl, (inl refl, (inl refl, (inl refl, (inl refl, (inl refl, (inr (inl refl), tt)))))))))));
+      ten-turns-walk = ten-turns;
+      ten-turns-judged = record {
+        on-walk = ten-turns;
+        within = record { no-less = no-less; no-more = no-more };
+        sixteen-bits = record { hit = omega arith; miss = omega arith; floors = loop-floors; ceilings = loop-ceilings };
+        answered = refl;
       };
+      eighth-exact = record { most = omega arith; period = (refl, refl); overhead = refl };
       last-node = λ p. omega (arith, p .1 .1 .1 .1 .1 .1 .1 .1 .1 .1 .1);
       walk-goes-on = onward-more;
       strangers-begin = strangers-formed;
       ten-turns-within = record { no-less = no-less; no-more = no-more };
       loop-checked = refl;
       loop-totals = refl;
+      loop-judged = refl;
       sample-report = refl;
       longest-chart = refl;
       passes-allowed = refl;
@@ -220,6 +257,7 @@ sounded =
       looser-hold = looser-hold;
       untotalled-hold = untotalled-hold;
       summed-hold = summed-hold;
+      timely-hold = timely-hold;
       shared-hold = shared-hold;
       shapes-hold = shapes-hold;
       left-behind-hold = left-behind-hold;
@@ -240,6 +278,7 @@ sounded =
       chart-sounded = chart-sounded;
       fields-sounded = fields-sounded;
       writer-sounded = writer-sounded;
+      clock-sounded = clock-sounded;
       corners-hold = corners-hold;
       right-hold = right-hold;
       mistaken-hold = mistaken-hold;

@@ -1,8 +1,8 @@
 -- Demand 1, as those who ordered the tool put it: "Any bytes and any buffer lengths get an answer or a numbered refusal. What a refusal
 -- returns and leaves behind, and when each is given, is written down."
 -- The definitions answer for every input whatever; this is what they say of each refusal of the reader, of the header alone, of the analysis, of the
--- checker, of the totals, of the writer, of a node read alone and of the blocks listed: rules 3.4, 11.0 to 11.17, 12.1 to 12.3, 12.5 to 12.8 and 15.1
--- to 15.6. Proved as `demand1` in proofs/Demand1.antt.
+-- checker, of the totals, of a deadline, of the writer, of a node read alone and of the blocks listed: rules 3.4, 11.0 to 11.18, 12.1 to 12.3, 12.5 to
+-- 12.8, 15.1 to 15.6 and 17.5. Proved as `demand1` in proofs/Demand1.antt.
 use Prim.Native.Nat.{ℕ, _*_, _≤_, _<_}
 use mathlib.Core.Path.{_≡_}
 use mathlib.Core.Bool.{true, false}
@@ -41,6 +41,10 @@ use Rattle.totals.specs.Totals.{totalCases, totals, totalSays}
 use Rattle.writer.specs.declared.heading.Heading.{Heading}
 use Rattle.writer.specs.Given.{NodeLists}
 use Rattle.demands.specs.Ordered.{numbersOf}
+use Rattle.clock.specs.declared.ClockSheet.{ClockSheet}
+use Rattle.clock.specs.declared.Deadline.{Deadline}
+use Rattle.deadline.specs.Deadline.{judged}
+use Rattle.demands.specs.Judging.{JudgedRefusals}
 use Rattle.demands.specs.Writing.{WriterRefusals, FieldsRefusals}
 
 -- Rule 11.12: each of so many passes changes something.
@@ -171,6 +175,8 @@ pub record Demand1 : Type 0 where
   pub totalling : (bytes : List ℕ) (chart : Chart) (table : Lent) (figures : Figures)
       → readChart bytes ≡ accepted chart
       → TotalsRefusals bytes chart table figures
+  -- rule 17.5
+  pub judging : (bytes : List ℕ) (table : Lent) (figures : Figures) (sheet : ClockSheet) (deadline : Deadline) → JudgedRefusals bytes table figures sheet deadline
   -- rules 15.1 to 15.6
   pub fields : FieldsRefusals
   pub writing : (heading : Heading) (lists : NodeLists) (lent : List ℕ) → WriterRefusals heading lists lent
@@ -206,7 +212,7 @@ pub record Demand1 : Type 0 where
       → totalSays bytes table figures ≡ record { number = numberOf refusal; place = placeOf refusal; low = 0; high = 0 }
   -- no buffer grows or shrinks
   pub same-lengths : (bytes : List ℕ) (allowance : ℕ) (lent : Buffers) → SameLengths lent (analysed bytes allowance lent .buffers)
-  -- rule 12.7: checker and totals cannot tell two tables apart that differ beyond the used parts. That they write to nothing needs no field: what
+  -- rules 12.7 and 17.5: checker, totals and deadline cannot tell two tables apart that differ beyond the used parts. That they write to nothing needs no field: what
   -- is lent to them are `&` slices
   pub checker-used : (bytes : List ℕ) (chart : Chart) (one other : Lent)
       → readChart bytes ≡ accepted chart
@@ -216,3 +222,7 @@ pub record Demand1 : Type 0 where
       → readChart bytes ≡ accepted chart
       → SameUsed (planOf chart) one other
       → totals bytes one figures ≡ totals bytes other figures
+  pub judged-used : (bytes : List ℕ) (chart : Chart) (one other : Lent) (figures : Figures) (sheet : ClockSheet) (deadline : Deadline)
+      → readChart bytes ≡ accepted chart
+      → SameUsed (planOf chart) one other
+      → judged bytes one figures sheet deadline ≡ judged bytes other figures sheet deadline

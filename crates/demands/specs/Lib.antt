@@ -1,14 +1,17 @@
 pub mod Demands
 pub mod Ordered
 pub mod Writing
+pub mod Judging
 pub mod RoundTrip
 pub mod Demand1
 pub mod Demand2
 pub mod Demand3
+pub mod OnTime
 pub mod Charts
 pub mod Soundings
 pub mod Refused
 pub mod Tabled
+pub mod Timely
 pub mod Corners
 pub mod Mistakes
 pub mod Sounded

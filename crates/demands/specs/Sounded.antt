@@ -21,6 +21,10 @@ use Rattle.chart.specs.Sizes.{sizedTouches, sizesRefused, crowded}
 use Rattle.chart.specs.Claims.{ChartSounded}
 use Rattle.fields.specs.Sounded.{nodesRead, blocksListed, FieldsSounded}
 use Rattle.writer.specs.Sounded.{loopWritten, fieldsPacked, headingsRefused, nodesRefused, ordered, crowds, WriterSounded}
+use Rattle.clock.specs.Laws.{ExactSheet}
+use Rattle.clock.specs.Sounded.{number, zero, eighth, two, twoAndHalf, sheet, latest, figuresSounded, timesSounded, refusalsSounded, verdictsSounded, ClockSounded}
+use Rattle.deadline.specs.declared.Judged.the-variants.{Met}
+use Rattle.deadline.specs.Deadline.{judged}
 use Rattle.report.specs.Report.{report}
 use Rattle.report.specs.Ending.{refuses, endingOf}
 use Rattle.chart.specs.Chart.{Chart}
@@ -38,6 +42,8 @@ use Rattle.demands.specs.Charts.{loopChart, loopReport}
 use Rattle.demands.specs.Soundings.{starred, after, loopFigures, loop, tenTurns}
 use Rattle.demands.specs.Refused.{damaged, unanalysed}
 use Rattle.demands.specs.Tabled.{unchecked, looser, untotalled, summed}
+use Rattle.demands.specs.Timely.{quarter, least, most, timely}
+use Rattle.demands.specs.OnTime.{JudgedWalk}
 use Rattle.demands.specs.Corners.{corners, unknownStart, strangers}
 use Rattle.demands.specs.Shared.{sharedSoundings, shapeSoundings}
 use Rattle.demands.specs.Edges.{leftBehind, edges, elevenSteps, elevenReport}
@@ -53,6 +59,9 @@ pub record Sounded : Type 0 where
   -- speaks of them
   pub ten-turns-walk : OnWalk loopChart loop emptyCache tenTurns
   pub ten-turns-within : VisitsWithin loop loopFigures tenTurns
+  -- and with 0.125 microseconds a cycle, no overhead and a latest time of 2.5 what is said of deadlines speaks of them, without rounding too
+  pub ten-turns-judged : JudgedWalk loopChart loop (tableIn (after loopChart)) loopFigures emptyCache tenTurns (sheet eighth zero) (latest twoAndHalf) (Met (number quarter) (number twoAndHalf))
+  pub eighth-exact : ExactSheet (sheet eighth zero) 3
   -- not every node of them is below 2: `AtEachNode` speaks of the last one, node 2, too
   pub last-node : AtEachNode loop (λ n cache. n < 2) tenTurns emptyCache → ⊥
   -- a walk goes on along any arrow of its last node, however long it is (rule 5.1)
@@ -62,9 +71,11 @@ pub record Sounded : Type 0 where
       → Walk arrows entry (ts ++ t ∷ [])
   -- where the contents are unknown, they may have blocks that the chart does not have (rule 4.7)
   pub strangers-begin : plainMachine unknownStart .Begins strangers
-  -- the loop chart's table passes, and its totals are 2 and 20: what the program `soundings` runs
+  -- the loop chart's table passes, its totals are 2 and 20, and they meet a deadline of 4.5 at 0.125 a cycle and an overhead of 2: what the program
+  -- `soundings` runs
   pub loop-checked : checked loopChart (tableIn (after loopChart)) ≡ Yes
   pub loop-totals : totals loopChart (tableIn (after loopChart)) loopFigures ≡ Between 2 20
+  pub loop-judged : judged loopChart (tableIn (after loopChart)) loopFigures (sheet eighth two) (latest most) ≡ Met (number least) (number most)
   -- the loop's report, whole, and the numbers that the program goes by (rules 1.4, 9.6, 13.1 and 13.2)
   pub sample-report : report loopChart ≡ loopReport
   pub longest-chart : longestChart ≡ 8200
@@ -90,6 +101,8 @@ pub record Sounded : Type 0 where
   pub looser-hold : Hold looser
   pub untotalled-hold : Hold untotalled
   pub summed-hold : Hold summed
+  -- deadlines of the loop, figures that are infinite, and refusal 18 behind those of the totals
+  pub timely-hold : Hold timely
   -- what analysis and plain machine share
   pub shared-hold : Hold sharedSoundings
   pub shapes-hold : Hold shapeSoundings
@@ -118,6 +131,8 @@ pub record Sounded : Type 0 where
   pub chart-sounded : ChartSounded
   pub fields-sounded : FieldsSounded
   pub writer-sounded : WriterSounded
+  -- the clock's: figures by their bits, times, limits and verdicts
+  pub clock-sounded : ClockSounded
   -- corners that the starred soundings leave out
   pub corners-hold : Hold corners
   -- what is right, and what each of five mistakes reads
@@ -129,8 +144,10 @@ pub record Sounded : Type 0 where
   pub how-many : map length (chartFields ∷ nodeCounts ∷ twinArrows ∷ sizedTouches ∷ sizesRefused ∷ crowded ∷ [])
       ++ map length (nodesRead ∷ blocksListed ∷ loopWritten ∷ fieldsPacked ∷ headingsRefused ∷ nodesRefused ∷ ordered ∷ crowds ∷ [])
       ++ map length (starred ∷ damaged ∷ unanalysed ∷ unchecked ∷ looser ∷ untotalled ∷ summed ∷ corners ∷ sharedSoundings ∷ shapeSoundings ∷ [])
+      ++ map length (figuresSounded ∷ timesSounded ∷ refusalsSounded ∷ verdictsSounded ∷ timely ∷ [])
       ++ map length (leftBehind ∷ edges ∷ straddling ∷ straddlingPaid ∷ stayingPasses ∷ staying ∷ stayingPaid ∷ stayingApart ∷ right ∷ mistaken ∷ examples ∷ [])
       ≡ (9 ∷ 12 ∷ 22 ∷ 19 ∷ 11 ∷ 8 ∷ [])
       ++ (5 ∷ 5 ∷ 4 ∷ 1 ∷ 24 ∷ 31 ∷ 7 ∷ 2 ∷ [])
       ++ (13 ∷ 26 ∷ 13 ∷ 13 ∷ 10 ∷ 20 ∷ 8 ∷ 17 ∷ 13 ∷ 6 ∷ [])
+      ++ (24 ∷ 3 ∷ 10 ∷ 9 ∷ 23 ∷ [])
       ++ (11 ∷ 12 ∷ 15 ∷ 11 ∷ 4 ∷ 13 ∷ 6 ∷ 4 ∷ 6 ∷ 6 ∷ 28 ∷ [])

@@ -1,8 +1,8 @@
--- The refusals' numbers and places. Rule 11.0, with the numbers of rules 11.1 to 11.17.
+-- The refusals' numbers and places. Rule 11.0, with the numbers of rules 11.1 to 11.18.
 -- When each applies is not said here, but beside the function that gives it.
 use Prim.Native.Nat.{ℕ}
 use Rattle.refusals.specs.declared.Refusal.{Refusal}
-use Rattle.refusals.specs.declared.Refusal.the-variants.{TooShort, Edition, CacheShape, StartCode, NodeCount, EntryNode, SpareBits, Length, BrokenRecord, TooManyBlocks, ShortBuffer, Unsettled, NotPassing, BoundsLength, MissBelowHit, FloorAboveCeiling, FloorAtUnmarked}
+use Rattle.refusals.specs.declared.Refusal.the-variants.{TooShort, Edition, CacheShape, StartCode, NodeCount, EntryNode, SpareBits, Length, BrokenRecord, TooManyBlocks, ShortBuffer, Unsettled, NotPassing, BoundsLength, MissBelowHit, FloorAboveCeiling, FloorAtUnmarked, ImpossibleTimes}
 
 -- Rule 11.0: each refusal's number, the place of its rule in section 11.
 abbrev pub numberOf : Refusal → ℕ
@@ -23,6 +23,7 @@ numberOf BoundsLength = 14
 numberOf MissBelowHit = 15
 numberOf (FloorAboveCeiling node) = 16
 numberOf (FloorAtUnmarked node) = 17
+numberOf ImpossibleTimes = 18
 
 -- Rule 11.0: the node at fault, where a refusal has one, and else 0.
 abbrev pub placeOf : Refusal → ℕ
@@ -43,3 +44,4 @@ placeOf BoundsLength = 0
 placeOf MissBelowHit = 0
 placeOf (FloorAboveCeiling node) = node
 placeOf (FloorAtUnmarked node) = node
+placeOf ImpossibleTimes = 0

@@ -2,7 +2,7 @@
 ghost use mathlib.Core.Path.{_≡_};
 ghost use Rattle.refusals.specs.Refusals.{numberOf, placeOf};
 
-// The refusals in the order of rules 11.1 to 11.17; those that are a node's fault carry the node.
+// The refusals in the order of rules 11.1 to 11.18; those that are a node's fault carry the node.
 pub enum Refusal {
     TooShort,
     Edition,
@@ -21,10 +21,11 @@ pub enum Refusal {
     MissBelowHit,
     FloorAboveCeiling(usize),
     FloorAtUnmarked(usize),
+    ImpossibleTimes,
 }
 
 impl Refusal {
-    // The refusal's number, from 1 to 17 (rule 11.0).
+    // The refusal's number, from 1 to 18 (rule 11.0).
     pub fn number(self) -> u64
         ensures { λ r. ⌜ r ≡ numberOf self ⌝ }
     {
@@ -46,6 +47,7 @@ impl Refusal {
             Refusal::MissBelowHit => 15,
             Refusal::FloorAboveCeiling(_) => 16,
             Refusal::FloorAtUnmarked(_) => 17,
+            Refusal::ImpossibleTimes => 18,
         }
     }
 
@@ -71,6 +73,7 @@ impl Refusal {
             Refusal::MissBelowHit => 0,
             Refusal::FloorAboveCeiling(node) => node,
             Refusal::FloorAtUnmarked(node) => node,
+            Refusal::ImpossibleTimes => 0,
         }
     }
 }

@@ -2,6 +2,7 @@
 ghost use Rattle.demands.specs.Demand1.{Demand1};
 ghost use Rattle.demands.specs.Demand2.{Demand2};
 ghost use Rattle.demands.specs.Demand3.{Demand3};
+ghost use Rattle.demands.specs.OnTime.{OnTime};
 ghost use Rattle.demands.specs.RoundTrip.{RoundTrip};
 ghost use Rattle.demands.specs.Sounded.{Sounded};
 ghost use Rattle.boundary.specs.Sounded.{ToldSounded};
@@ -16,10 +17,15 @@ pub(crate) fn says_most()
     ensures { λ _. ⌜ Demand2 ⌝ }
 {}
 
-// What a class calls a hit hits, what it calls a miss misses, of what it calls kept one touch of a block misses at most, and the cost lies between the
-// totals.
+// What a class calls a hit hits, what it calls a miss misses, of what it calls kept one touch of a block misses at most, and the cost lies between
+// the totals.
 pub(crate) fn says_so()
     ensures { λ _. ⌜ Demand3 ⌝ }
+{}
+
+// A deadline that is met is kept by the cost of every walk within the bounds, as a figure.
+pub(crate) fn kept_in_time()
+    ensures { λ _. ⌜ OnTime ⌝ }
 {}
 
 // What was written reads back, and what was read is written again.

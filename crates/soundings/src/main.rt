@@ -1,22 +1,26 @@
-// A program that runs the sounding of the totals: the loop chart is analysed, its table checked, and its totals taken. It reads a record that writes,
-// and stands on the proofs of the three demands, of the round trip and of the soundings. It takes no input, and prints the same each time.
+// A program that runs the sounding of the totals: the loop chart is analysed, its table checked, its totals taken and held to a deadline. It reads
+// a record that writes, and stands on the proofs of the three demands, of deadlines, of the round trip and of the soundings. It takes no input, and
+// prints the same each time.
 mod demanded;
 mod sounding;
 
 use crate::demanded::asked_anything;
 use crate::demanded::comes_back;
+use crate::demanded::kept_in_time;
 use crate::demanded::says_most;
 use crate::demanded::says_so;
 use crate::demanded::sounded;
 use crate::demanded::told;
 use crate::sounding::are_bytes;
 use crate::sounding::loop_checked;
+use crate::sounding::loop_judged;
 use crate::sounding::loop_totals;
 use crate::sounding::three_kinds;
 use crate::sounding::written_node;
 use chart::Node;
 use chart::Record;
 use checker::Checked;
+use deadline::Judged;
 use libc::STDOUT_FILENO;
 use refusals::Refusal;
 use totals::Totals;
@@ -59,6 +63,19 @@ fn print_totals(answer: Totals) {
     }
 }
 
+// Writes what was answered for a deadline.
+fn print_judged(answer: Judged) {
+    match answer {
+        Judged::Met { low: _, high: _ } => {
+            io::write_all(STDOUT_FILENO, b"the deadline is met\n");
+        }
+        Judged::NotMet { low: _, high: _ } => {
+            io::write_all(STDOUT_FILENO, b"the deadline is not met\n");
+        }
+        Judged::Refused(refusal) => print_refusal(refusal),
+    }
+}
+
 // Writes what a record does, as `writes 64 to 67`.
 fn print_record(what: Record) {
     let Record::Reference(reference) = what else {
@@ -92,6 +109,11 @@ fn print_demanded() {
     io::write_all(STDOUT_FILENO, b"demand 2 is proved\n");
     says_so();
     io::write_all(STDOUT_FILENO, b"demand 3 is proved\n");
+    kept_in_time();
+    io::write_all(
+        STDOUT_FILENO,
+        b"that figures keep a met deadline is proved\n",
+    );
     comes_back();
     io::write_all(STDOUT_FILENO, b"the round trip is proved\n");
     sounded();
@@ -100,10 +122,11 @@ fn print_demanded() {
     io::write_all(STDOUT_FILENO, b"what is told to C is proved\n");
 }
 
-// Writes what the checker and the totals answer, a node that writes, and what is proved.
+// Writes what is answered by the checker, by the totals and for a deadline, a node that writes, and what is proved.
 fn main() {
     print_checked(loop_checked());
     print_totals(loop_totals());
+    print_judged(loop_judged());
     let bytes = three_kinds();
     print_node(written_node());
     are_bytes(&bytes);

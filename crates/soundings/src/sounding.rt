@@ -1,9 +1,12 @@
-// The sounding of the totals, through the code: the loop of docs/RULES.md, its table, and its totals at 1 for a hit and 10 for a miss. Beside
-// it a record that writes, and that every slice of bytes has numbers below 256. Each function promises what it answers; none refuses.
+// The sounding of the totals, through the code: the loop of docs/RULES.md, its table, its totals at 1 for a hit and 10 for a miss, and a deadline.
+// Beside it a record that writes, and that every slice of bytes has numbers below 256. Each function promises what it answers; none refuses.
 ghost use mathlib.Core.Path.{_≡_};
 ghost use Rattle.analysis.specs.Analysis.{tableIn};
 ghost use Rattle.checker.specs.declared.Checked.the-variants.{Yes};
 ghost use Rattle.totals.specs.declared.Totals.the-variants.{Between};
+ghost use Rattle.deadline.specs.declared.Judged.the-variants.{Met};
+ghost use Rattle.clock.specs.Sounded.{number};
+ghost use Rattle.demands.specs.Timely.{least, most};
 ghost use mathlib.Core.List.{[], _∷_};
 ghost use Prim.Native.Nat.{_<_};
 ghost use Rattle.chart.specs.Bytes.{AreBytes};
@@ -13,6 +16,9 @@ ghost use Rattle.demands.specs.Soundings.{after};
 use chart::Geometry;
 use chart::Node;
 use checker::Checked;
+use clock::ClockSheet;
+use clock::Deadline;
+use deadline::Judged;
 use totals::Totals;
 
 // The loop chart's table, with room for its three nodes and for two blocks.
@@ -82,6 +88,35 @@ pub(crate) fn loop_totals() -> Totals
     let floors = [1u16, 1, 1];
     let ceilings = [1u16, 10, 1];
     totals::total(&chart, &must, &may, &marks, 1, 10, &floors, &ceilings)
+}
+
+// What is answered for that table and those costs at 0.125 microseconds a cycle and an overhead of 2, against 4.5, which is the figure of 20 cycles.
+pub(crate) fn loop_judged() -> Judged
+    ensures { λ r. ⌜ r ≡ Met (number least) (number most) ⌝ }
+{
+    let chart = loop_chart();
+    let table = loop_table();
+    let must = table.must;
+    let may = table.may;
+    let marks = table.marks;
+    let fewest = [1u16, 1, 1];
+    let most = [1u16, 10, 1];
+    let sheet = ClockSheet {
+        period: 0.125,
+        overhead: 2.0,
+    };
+    deadline::judge(
+        &chart,
+        &must,
+        &may,
+        &marks,
+        1,
+        10,
+        &fewest,
+        &most,
+        sheet,
+        Deadline::Latest(4.5),
+    )
 }
 
 // Bytes that hold a read, a write and a step; they are no chart, since there are fewer records than their header says.

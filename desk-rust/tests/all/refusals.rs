@@ -5,7 +5,7 @@ use crate::place::Place;
 use reports::tree::text;
 
 /// The refusals that there are.
-const LAST: usize = 17;
+const LAST: usize = 18;
 
 #[test]
 fn each_refusal_is_explained_as_the_page_does() {

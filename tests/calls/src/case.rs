@@ -14,10 +14,11 @@ pub enum Function {
     Node = 5,
     Blocks = 6,
     Write = 7,
+    Deadline = 8,
 }
 
 impl Function {
-    pub const ALL: [Function; 7] = [
+    pub const ALL: [Function; 8] = [
         Function::Read,
         Function::Analyse,
         Function::Check,
@@ -25,10 +26,11 @@ impl Function {
         Function::Node,
         Function::Blocks,
         Function::Write,
+        Function::Deadline,
     ];
 }
 
-/// A call. Its numbers and its buffers are in the order of the C function's parameters.
+/// A call. Its numbers and its buffers are in the order of the C function's parameters; of a double there are the bits.
 #[derive(Clone, Debug)]
 pub struct Case {
     pub function: Function,
@@ -53,9 +55,9 @@ impl Case {
         }
     }
 
-    /// The lists that numbers are told in: the last buffer, and of veilbuzz_read and veilbuzz_node the one before it too.
+    /// The lists that numbers are told in: the last buffer, and of veilbuzz_read, veilbuzz_node and veilbuzz_deadline the one before it too.
     pub fn lists(&self) -> &[Buffer] {
-        let both = matches!(self.function, Function::Read | Function::Node);
+        let both = matches!(self.function, Function::Read | Function::Node | Function::Deadline);
         let lists = if both { 2 } else { 1 };
         &self.buffers[self.buffers.len() - lists..]
     }

@@ -9,11 +9,14 @@ mod checking;
 mod element;
 pub mod given;
 mod inputs;
+mod judging;
 mod lengths;
 mod listing;
 mod one_node;
+mod question;
 mod reading;
 mod tables;
+mod times;
 mod totalling;
 mod writing;
 pub mod wrong;
@@ -26,17 +29,18 @@ use charts::random::Random;
 /// The seed that `record` takes unless it is given another.
 pub const SEED: u64 = 20_250_701;
 
-/// The case of a number: the functions take turns, the totals two, since they have the most refusals; all else is the seed's.
+/// The case of a number: the functions take turns, the totals and the deadline two, since they have the most refusals; all else is the seed's.
 pub fn case(seed: u64, number: u64) -> Case {
     let mut random = Random::new(seed.wrapping_add(number));
-    let roomy = match number % 8 {
+    let roomy = match number % 10 {
         0 => reading::case(&mut random),
         1 => analysing::case(&mut random),
         2 => checking::case(&mut random),
         3 => one_node::case(&mut random),
         4 => listing::case(&mut random),
         5 => writing::case(&mut random),
-        _ => totalling::case(&mut random),
+        6 | 7 => totalling::case(&mut random),
+        _ => judging::case(&mut random),
     };
     roomy.with_regard_to_room()
 }

@@ -7,7 +7,7 @@ use second::chart::Chart;
 use std::collections::BTreeMap;
 
 /// As many as the run under valgrind has, the shortest of all.
-const CASES: u64 = 40_000;
+const CASES: u64 = 50_000;
 
 fn cases() -> impl Iterator<Item = Case> {
     (0..CASES).map(|number| calls::case(SEED, number))
@@ -23,7 +23,7 @@ fn tally<K: Ord>(keys: impl Iterator<Item = K>) -> BTreeMap<K, usize> {
 }
 
 /// Which numbers each function returns: 0 and its refusals.
-const RETURNED: [(Function, &[u64]); 7] = [
+const RETURNED: [(Function, &[u64]); 8] = [
     (Function::Read, &[0, 1, 2, 3, 4, 5, 6, 7, 8, 9, 10, 11]),
     (Function::Analyse, &[0, 1, 2, 3, 4, 5, 6, 7, 8, 9, 10, 11, 12]),
     (Function::Check, &[0, 1, 2, 3, 4, 5, 6, 7, 8, 9, 10, 11]),
@@ -34,6 +34,10 @@ const RETURNED: [(Function, &[u64]); 7] = [
     (Function::Node, &[0, 1, 2, 3, 4, 5, 6, 7, 8, 9, 10, 11]),
     (Function::Blocks, &[0, 1, 2, 3, 4, 5, 6, 7, 8, 9, 10, 11]),
     (Function::Write, &[0, 3, 4, 5, 6, 8, 9, 10, 11]),
+    (
+        Function::Deadline,
+        &[0, 1, 2, 3, 4, 5, 6, 7, 8, 9, 10, 11, 13, 14, 15, 16, 17, 18],
+    ),
 ];
 
 #[test]
@@ -65,7 +69,7 @@ fn each_function_refuses(least: usize, fault: fn([u8; 8], usize) -> bool) {
     };
     let refused = cases().filter(|case| case.returned == 9 && faulty(case));
     let met = tally(refused.map(|case| case.function));
-    assert!(met.len() == 6 && met.values().all(|&times| times >= least), "{met:?}");
+    assert!(met.len() == 7 && met.values().all(|&times| times >= least), "{met:?}");
 }
 
 #[test]
@@ -79,7 +83,7 @@ fn each_function_refuses_a_record_for_its_size() {
 }
 
 /// The buffers that refusal 11 speaks of, by their places among the parameters.
-const REFUSED_IF_SHORT: [(Function, &[usize]); 7] = [
+const REFUSED_IF_SHORT: [(Function, &[usize]); 8] = [
     (Function::Read, &[1, 2]),
     (Function::Analyse, &[1, 2, 3, 4, 5, 6]),
     (Function::Check, &[1, 2, 3, 4]),
@@ -87,6 +91,7 @@ const REFUSED_IF_SHORT: [(Function, &[usize]); 7] = [
     (Function::Node, &[1, 2]),
     (Function::Blocks, &[1, 2]),
     (Function::Write, &[6, 7]),
+    (Function::Deadline, &[1, 2, 3, 6, 7]),
 ];
 
 #[test]
@@ -140,7 +145,13 @@ fn each_buffer_of_an_accepted_call_is_longer_just_right_and_empty() {
         }
     }
     // Block numbers and ages of a chart of bare steps.
-    for function in [Function::Analyse, Function::Check, Function::Total, Function::Blocks] {
+    for function in [
+        Function::Analyse,
+        Function::Check,
+        Function::Total,
+        Function::Blocks,
+        Function::Deadline,
+    ] {
         let times = met.get(&(function, 1, "empty")).copied().unwrap_or(0);
         assert!(times >= 5, "buffer 1 of {function:?} is empty only {times} times");
     }
@@ -161,6 +172,7 @@ fn each_buffer_is_empty_and_then_lent_as_no_memory_at_all() {
         (Function::Node, 3),
         (Function::Blocks, 3),
         (Function::Write, 8),
+        (Function::Deadline, 8),
     ] {
         for place in 0..buffers {
             let times = met.get(&(function, place)).copied().unwrap_or(0);
@@ -174,7 +186,7 @@ fn a_call_without_room_for_its_answer_is_11_whatever_else_is_lent() {
     let short = |case: &Case| case.lists().iter().any(calls::Buffer::is_short);
     let met = tally(cases().filter(short).map(|case| (case.function, case.returned)));
     assert_eq!(met.keys().filter(|key| key.1 != 11).count(), 0);
-    assert!(met.len() == 7 && met.values().all(|&times| times >= 500), "{met:?}");
+    assert!(met.len() == 8 && met.values().all(|&times| times >= 500), "{met:?}");
 }
 
 #[test]
@@ -194,6 +206,8 @@ fn lists_of_numbers_have_0_to_10_places() {
         (Function::Node, 2),
         (Function::Blocks, 2),
         (Function::Write, 7),
+        (Function::Deadline, 6),
+        (Function::Deadline, 7),
     ];
     for (function, place) in lists {
         for length in 0..=10 {

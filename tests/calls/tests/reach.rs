@@ -10,7 +10,7 @@ use second::lent::Lent;
 use second::limits::{BLOCKS, PASSES, TOUCHES};
 
 fn cases() -> impl Iterator<Item = Case> {
-    (0..40_000).map(|number| calls::case(SEED, number))
+    (0..50_000).map(|number| calls::case(SEED, number))
 }
 
 #[test]
@@ -39,8 +39,8 @@ fn touches_of_what_is_analysed_have_every_class() {
     assert!(times.as_flattened().iter().all(|&times| times >= 100), "{times:?}");
 }
 
-/// Whether the table of a call to the totals calls a touch kept at a ceiling above 0, at a node that a walk reaches, and at one that it marks and
-/// no walk reaches.
+/// Whether the table of a call to the totals or the deadline calls a touch kept at a ceiling above 0, at a node that a walk reaches, and at
+/// one that it marks and no walk reaches.
 fn keeps(case: &Case) -> [bool; 2] {
     let bytes = case.buffers[0].elements::<u8>();
     let chart = Chart::read(&bytes).expect("the chart is accepted");
@@ -60,15 +60,22 @@ fn keeps(case: &Case) -> [bool; 2] {
     keeps
 }
 
-#[test]
-fn totals_pay_for_kept_touches_also_where_no_walk_comes() {
+/// How many accepted calls of a function keep a touch where a walk comes, and where none does.
+fn kept_times(function: Function) -> [usize; 2] {
     let mut times = [0; 2];
-    for case in cases().filter(|case| case.function == Function::Total && case.returned == 0) {
+    for case in cases().filter(|case| case.function == function && case.returned == 0) {
         for (times, keeps) in times.iter_mut().zip(keeps(&case)) {
             *times += usize::from(keeps);
         }
     }
-    assert!(times[0] >= 500 && times[1] >= 20, "{times:?}");
+    times
+}
+
+#[test]
+fn totals_and_deadlines_pay_for_kept_touches_also_where_no_walk_comes() {
+    let [totals, deadlines] = [Function::Total, Function::Deadline].map(kept_times);
+    assert!(totals[0] >= 500 && totals[1] >= 20, "{totals:?}");
+    assert!(deadlines[0] >= 500 && deadlines[1] >= 10, "{deadlines:?}");
 }
 
 #[test]

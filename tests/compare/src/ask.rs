@@ -1,15 +1,18 @@
 //! The functions, asked of the archive through the wrapper and of the second program: their answers, and all that was lent.
 
-use crate::expected;
+use crate::expected::{self, Timed};
 use crate::given::Given;
 use crate::given_lent::LentGiven;
 use crate::guarded::Guarded;
 use crate::lent::Lent;
+use crate::raw_deadline::Asked;
 use crate::same::{same, Held};
+use crate::sheet::Sheet;
 use crate::table::LentTable;
 use crate::tally::{Tally, ANSWER};
 use charts::random::Random;
-use veilbuzz::{Bounds, Costs, Fields, Header, Refusal, Settled, Totals, Unsettled};
+use second::deadline::Deadline as Second;
+use veilbuzz::{Bounds, ClockSheet, Costs, Deadline, Fields, Header, Refusal, Settled, Totals, Unsettled};
 
 /// Counts an answer of a function by the number of its refusal, 0 for none.
 fn counted<T>(tally: &mut Tally, function: &'static str, answer: &Result<T, Refusal>) {
@@ -109,7 +112,8 @@ impl LentBounds {
         }
     }
 
-    fn same(&self, before: &LentBounds) -> Held {
+    /// Holds both to what they were before, guards too.
+    pub fn same(&self, before: &LentBounds) -> Held {
         self.floors.same("floors, which are only read,", &before.floors)?;
         self.ceilings.same("ceilings, which are only read,", &before.ceilings)
     }
@@ -133,4 +137,25 @@ pub fn total(
         })?;
     counted(tally, TOTAL, &answer);
     Ok(answer)
+}
+
+/// Of a kind that there is not the wrapper cannot be asked.
+pub fn deadline(asked: &Asked, sheet: Sheet, expected: Result<Timed, Refusal>) -> Held {
+    let deadline = match sheet.deadline() {
+        None => return Ok(()),
+        Some(Second::None) => Deadline::None,
+        Some(Second::Latest(latest)) => Deadline::Latest(latest),
+        Some(Second::Window { earliest, latest }) => Deadline::Window { earliest, latest },
+    };
+    let clock = ClockSheet {
+        period: sheet.period,
+        overhead: sheet.overhead,
+    };
+    let (table, bounds) = (asked.table.to_archive(), asked.bounds.bounds());
+    let judged = veilbuzz::deadline(asked.chart, table, asked.costs, bounds, clock, deadline);
+    let answer = judged.map(|judged| Timed {
+        figures: [judged.low.to_bits(), judged.high.to_bits()],
+        met: judged.met,
+    });
+    same("deadline", &answer, &expected).map_err(|words| format!("{words}, of {:?}, {sheet:?}", asked.totals))
 }

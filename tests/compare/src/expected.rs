@@ -2,12 +2,14 @@
 
 use crate::given::Given;
 use crate::lent::Lent;
+use crate::sheet::Sheet;
 use crate::table::LentTable;
 use second::analysis::{self, Analysed};
 use second::blocks;
 use second::cache;
 use second::chart::Chart;
 use second::checker;
+use second::deadline;
 use second::header;
 use second::node;
 use second::record::RecordFields;
@@ -88,5 +90,25 @@ pub fn total(bytes: &[u8], table: &LentTable, costs: Costs, bounds: Bounds) -> R
     Ok(Totals {
         low: totals.low,
         high: totals.high,
+    })
+}
+
+/// What the deadline tells: the bits of the low and of the high figure, and whether it is met.
+#[derive(Clone, Copy, Debug, PartialEq)]
+pub struct Timed {
+    pub figures: [u64; 2],
+    pub met: bool,
+}
+
+/// What the deadline tells where the totals have answered so.
+pub fn deadline(totals: Result<Totals, Refusal>, sheet: Sheet) -> Result<Timed, Refusal> {
+    let totals = match totals {
+        Ok(Totals { low, high }) => Ok(totals::Totals { low, high }),
+        Err(Refusal { number, place }) => Err(second::refusal::Refusal { number, place }),
+    };
+    let judged = deadline::judged(totals, sheet.clock(), sheet.deadline()).map_err(refusal)?;
+    Ok(Timed {
+        figures: [judged.low.bits(), judged.high.bits()],
+        met: judged.met,
     })
 }

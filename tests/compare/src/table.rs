@@ -21,6 +21,15 @@ impl Table {
         }
     }
 
+    /// A copy of one that can be lent.
+    pub fn copied(table: veilbuzz::Table) -> Table {
+        Table {
+            must: table.must.to_vec(),
+            may: table.may.to_vec(),
+            marks: table.marks.to_vec(),
+        }
+    }
+
     /// What an analysis has written.
     pub fn written(lent: &Lent, nodes: usize, blocks: usize) -> Table {
         Table {

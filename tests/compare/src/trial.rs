@@ -4,11 +4,13 @@ use crate::apart::node_and_blocks;
 use crate::ask;
 use crate::bounds::Question;
 use crate::crowds;
+use crate::deadlines;
 use crate::draw;
 use crate::features;
 use crate::kept;
 use crate::lent::{used, Lent};
 use crate::raw;
+use crate::raw_deadline::Asked;
 use crate::same::{holds, Held};
 use crate::sizes;
 use crate::straddles;
@@ -21,6 +23,9 @@ use crate::writing::again;
 use charts::random::Random;
 use second::chart::Chart;
 use veilbuzz::{Header, PASSES, TOUCHES};
+
+/// How many clock sheets and deadlines each question to the totals is asked with too.
+const SHEETS: usize = 2;
 
 /// How many faults the totals were asked with at once.
 pub const FAULTS: &str = "faults of a question to the totals";
@@ -52,7 +57,15 @@ fn refused(random: &mut Random, tally: &mut Tally, chart: &[u8]) -> Held {
     _ = ask::check(tally, chart, &table)?;
     let question = Question::sound(random, &vec![1; nodes]);
     let bounds = question.lent(random);
-    _ = ask::total(tally, chart, &table, question.costs, &bounds)?;
+    let totals = ask::total(tally, chart, &table, question.costs, &bounds)?;
+    let asked = Asked {
+        chart,
+        table: &table,
+        costs: question.costs,
+        bounds: &bounds,
+        totals,
+    };
+    deadlines::draw(random, tally, &asked, 1)?;
     if random.once_in(4) {
         raw::analyse(random, tally, chart, PASSES, &lent)?;
         raw::check(random, tally, chart, &table)?;
@@ -142,7 +155,7 @@ fn shortened(random: &mut Random, table: &Table) -> Table {
     short
 }
 
-/// Asks for totals, now and then with faults, in the table too.
+/// Asks for totals, now and then with faults, in the table too, and for the deadline.
 fn question(random: &mut Random, tally: &mut Tally, bytes: &[u8], chart: &Chart, tables: &[Table]) -> Held {
     let mut table = tables[random.below(2) as usize].clone();
     let mut question = Question::sound(random, &table.marks);
@@ -162,9 +175,18 @@ fn question(random: &mut Random, tally: &mut Tally, bytes: &[u8], chart: &Chart,
     };
     tally.at(FAULTS, faults);
     let bounds = question.lent(random);
-    if ask::total(tally, bytes, &table, question.costs, &bounds)?.is_ok() {
+    let totals = ask::total(tally, bytes, &table, question.costs, &bounds)?;
+    if totals.is_ok() {
         kept::count_marked(tally, chart, &table, &tables[0].marks, &question.ceilings);
     }
+    let asked = Asked {
+        chart: bytes,
+        table: &table,
+        costs: question.costs,
+        bounds: &bounds,
+        totals,
+    };
+    deadlines::draw(random, tally, &asked, SHEETS)?;
     if random.once_in(4) {
         raw::total(random, tally, bytes, &table, question.costs, &bounds)?;
     }

@@ -1,12 +1,14 @@
-//! Random walks through the plain cache, held to the archive's classes, ages and totals.
+//! Random walks through the plain cache, held to the archive's classes, ages, totals and deadlines.
 
 use crate::ask::{self, LentBounds};
 use crate::bounds::{costs, Question};
 use crate::lent::Lent;
 use crate::paid::{pay, Paid};
+use crate::raw_deadline::Asked;
 use crate::same::{holds, Held};
 use crate::table::{LentTable, Table};
 use crate::tally::Tally;
+use crate::walk_times::WalkTimes;
 use charts::random::Random;
 use second::cache::Cache;
 use second::chart::Chart;
@@ -111,16 +113,27 @@ pub fn hold(
         floors: visits.clone(),
         ceilings: visits.clone(),
     };
+    let mut times = WalkTimes::of(random, paid);
     for (number, table) in tables.iter().enumerate() {
         let table = LentTable::of(random, table);
-        let close = between(tally, bytes, &table, costs, &own.lent(random), paid)?;
-        holds(number > 0 || close == totals, || {
-            format!("a walk costs {paid}, and has {close:?} and not {totals:?} with {own:?}")
-        })?;
-        holds(number > 0 || !sure || close.low == close.high, || {
-            format!("a sure walk costs {paid}, and has {close:?} with {own:?}")
-        })?;
-        between(tally, bytes, &table, costs, &around(random, &visits), paid)?;
+        for (close, bounds) in [(true, own.lent(random)), (false, around(random, &visits))] {
+            let within = between(tally, bytes, &table, costs, &bounds, paid)?;
+            let exact = close && number == 0;
+            holds(!exact || within == totals, || {
+                format!("a walk costs {paid}, and has {within:?} and not {totals:?} with {own:?}")
+            })?;
+            holds(!exact || !sure || within.low == within.high, || {
+                format!("a sure walk costs {paid}, and has {within:?} with {own:?}")
+            })?;
+            let asked = Asked {
+                chart: bytes,
+                table: &table,
+                costs,
+                bounds: &bounds,
+                totals: Ok(within),
+            };
+            times.hold(random, tally, &asked)?;
+        }
     }
-    Ok(())
+    times.end(tally)
 }

@@ -48,6 +48,32 @@ fn the_page_of_must_fail_edits_has_each_edit_and_no_other() {
 }
 
 #[test]
+fn the_readme_shows_what_the_example_of_a_deadline_prints() {
+    let shown: String = text("examples/deadline.stdout")
+        .lines()
+        .map(|line| format!("    {line}\n"))
+        .collect();
+    assert!(
+        text("README.md").contains(&shown),
+        "README.md does not show these lines:\n{shown}"
+    );
+}
+
+#[test]
+fn the_picture_of_a_deadline_has_the_figures_of_the_example() {
+    let (printed, picture) = (text("examples/deadline.stdout"), text("docs/deadline.svg"));
+    let figures: Vec<String> = printed
+        .lines()
+        .filter_map(|line| line.split_once(": ")?.1.split_once(" us, "))
+        .map(|(figures, _)| format!(">{figures} µs<"))
+        .collect();
+    assert_eq!(figures.len(), 2);
+    for figure in figures {
+        assert!(picture.contains(&figure), "docs/deadline.svg has no {figure}");
+    }
+}
+
+#[test]
 fn each_crate_has_a_line_in_the_readme_and_in_the_trace() {
     let (readme, trace) = (text("README.md"), text("docs/TRACE.md"));
     for name in crates() {

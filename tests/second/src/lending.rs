@@ -1,12 +1,14 @@
 use crate::analysis::{analyse, Analysed, Buffers};
 use crate::cache::Costs;
 use crate::checker::check;
+use crate::clock::ClockSheet;
+use crate::deadline::{deadline, Deadline, Judged};
 use crate::lent::Lent;
 use crate::limits::{BLOCKS, NODES, TOUCHES};
 use crate::refusal::Refusal;
 use crate::totals::{totals, Bounds, Totals};
 
-/// Buffers of one's own, to lend to an analysis, to the checker or to the totals.
+/// Buffers of one's own, to lend to an analysis, to the checker, to the totals or to the deadline.
 #[derive(Clone, Debug, PartialEq, Eq)]
 pub struct Lending {
     pub blocks: Vec<u32>,
@@ -59,5 +61,16 @@ impl Lending {
 
     pub fn totals(&self, chart: &[u8], costs: Costs, bounds: Bounds) -> Result<Totals, Refusal> {
         totals(chart, self.lent(), costs, bounds)
+    }
+
+    pub fn deadline(
+        &self,
+        chart: &[u8],
+        costs: Costs,
+        bounds: Bounds,
+        sheet: ClockSheet,
+        asked: Option<Deadline>,
+    ) -> Result<Judged, Refusal> {
+        deadline(chart, self.lent(), costs, bounds, sheet, asked)
     }
 }

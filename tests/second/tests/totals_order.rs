@@ -1,4 +1,4 @@
-//! The order of the totals' refusals: of several faults at once the first is told.
+//! The order of the refusals of the totals and of the deadline: of several faults at once the first is told.
 
 mod question;
 
@@ -7,9 +7,11 @@ use charts::random_charts::{damaged, whole};
 use charts::Chart;
 use question::{after, sample, Question};
 use second::chart;
+use second::clock::ClockSheet;
+use second::deadline::{Deadline, Judged};
 use second::limits::BLOCKS;
 use second::refusal::Refusal;
-use second::totals::Totals;
+use second::totals::{Bounds, Totals};
 
 /// A refusal, and a change of the question that brings it about.
 type Fault = (Refusal, fn(&mut Question));
@@ -103,4 +105,47 @@ fn damaged_charts_are_refused_as_the_reader_refuses_them() {
         refused += 1;
     }
     assert!(refused > 500, "only {refused} charts were refused");
+}
+
+/// What the deadline answers to a question with such a sheet and a kind of deadline.
+fn judged(question: &Question, period: f64, kind: u64) -> Result<Judged, Refusal> {
+    let bounds = Bounds {
+        floors: &question.floors,
+        ceilings: &question.ceilings,
+    };
+    let sheet = ClockSheet { period, overhead: 0.0 };
+    let asked = Deadline::of(kind, 2.0, 1.0);
+    question
+        .table
+        .deadline(&question.chart, question.costs, bounds, sheet, asked)
+}
+
+/// Holds the deadline of a question that the totals refuse to the same refusal, possible or not.
+fn refused_alike(question: &Question, refusal: Refusal) {
+    for (period, kind) in [(0.125, 0), (0.125, 2), (0.125, 3), (-0.0, 1), (f64::NAN, 3)] {
+        assert_eq!(judged(question, period, kind), Err(refusal), "{period} and {kind}");
+    }
+}
+
+#[test]
+fn impossible_times_go_behind_all_others() {
+    let sound = Question::accepted();
+    assert!(judged(&sound, 0.125, 0).is_ok());
+    for (period, kind) in [(0.125, 2), (0.125, 3), (0.0, 0), (f64::INFINITY, 1)] {
+        assert_eq!(judged(&sound, period, kind), Err(Refusal::of(18)));
+    }
+    for (refusal, spoil) in FAULTS {
+        let mut question = Question::accepted();
+        spoil(&mut question);
+        refused_alike(&question, refusal);
+    }
+    for (refusal, chart) in refused_charts() {
+        refused_alike(
+            &Question {
+                chart,
+                ..Question::accepted()
+            },
+            refusal,
+        );
+    }
 }

@@ -1,5 +1,6 @@
 //! Random charts, whole and damaged, through everything.
 
+use crate::random_deadlines;
 use crate::random_written;
 use charts::random_edges::{EDGES, NODE_EDGES};
 use compare::ask::{ANALYSE, CHECK, READ, TOTAL};
@@ -49,6 +50,7 @@ fn the_archive_and_the_second_program_agree_on_random_charts() {
         expect_edges(&tally);
         expect_lent(&tally);
         random_written::expect(&tally);
+        random_deadlines::expect(&tally);
     }
 }
 

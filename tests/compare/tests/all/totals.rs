@@ -1,11 +1,15 @@
-//! The totals with every choice of faults, and costs and bounds at their ends.
+//! The totals with every choice of faults, and costs and bounds at their ends; and deadlines with each.
 
 use charts::{Chart, Record};
 use compare::ask::{self, TOTAL};
 use compare::bounds::Question;
+use compare::deadlines;
 use compare::group::Group;
+use compare::impossible::BEHIND;
 use compare::raw;
+use compare::raw_deadline;
 use compare::table::{LentTable, Table};
+use compare::times::DEADLINE;
 use second::limits::{BLOCKS, NODES};
 use veilbuzz::{Analysis, Costs};
 
@@ -31,13 +35,8 @@ struct Asked {
 
 fn sound(chart: &[u8]) -> Asked {
     let analysis = Analysis::of(chart).expect("the chart is accepted");
-    let table = analysis.table();
     Asked {
-        table: Table {
-            must: table.must.to_vec(),
-            may: table.may.to_vec(),
-            marks: table.marks.to_vec(),
-        },
+        table: Table::copied(analysis.table()),
         question: Question {
             costs: Costs { hit: 1, miss: 10 },
             floors: vec![1, 1, 0, 1, 0, 0],
@@ -64,14 +63,21 @@ const FAULTS: [Fault; 12] = [
     |asked| asked.question.ceilings[0] = 0,
 ];
 
-/// Asks about one chart with all of these.
-fn ask_all(group: &mut Group, chart: &[u8], all: impl Iterator<Item = Asked>) {
+/// Asks about one chart with all of these, and for so many deadlines with each.
+fn ask_all(group: &mut Group, chart: &[u8], all: impl Iterator<Item = Asked>, sheets: usize) {
     group.hold(chart, |random, tally, chart| {
         for Asked { table, question } in all {
             let table = LentTable::exactly(random, &table);
             let bounds = question.lent(random);
-            _ = ask::total(tally, chart, &table, question.costs, &bounds)?;
+            let asked = raw_deadline::Asked {
+                chart,
+                table: &table,
+                costs: question.costs,
+                bounds: &bounds,
+                totals: ask::total(tally, chart, &table, question.costs, &bounds)?,
+            };
             raw::total(random, tally, chart, &table, question.costs, &bounds)?;
+            deadlines::draw(random, tally, &asked, sheets)?;
         }
         Ok(())
     });
@@ -90,10 +96,14 @@ fn every_choice_of_faults() {
         }
         asked
     });
-    ask_all(&mut group, &chart, choices);
+    ask_all(&mut group, &chart, choices, 4);
     let tally = group.end();
     for number in [0, 11, 13, 14, 15, 16, 17] {
         tally.expect_each(TOTAL, number..=number, 1);
+        tally.expect_each(DEADLINE, number..=number, 1);
+        if number > 0 {
+            tally.expect_each(BEHIND, number..=number, 1);
+        }
     }
 }
 
@@ -120,7 +130,7 @@ fn costs_and_bounds_at_their_ends() {
             ..sound(&chart)
         }
     });
-    ask_all(&mut group, &chart, all);
+    ask_all(&mut group, &chart, all, 4);
     let tally = group.end();
     for number in [0, 15, 16] {
         tally.expect_each(TOTAL, number..=number, 500);
@@ -146,7 +156,9 @@ fn the_largest_totals() {
             question: highest,
             ..sound(&chart)
         };
-        ask_all(&mut group, &chart, [asked].into_iter());
+        ask_all(&mut group, &chart, [asked].into_iter(), 400);
     }
-    group.end().expect(TOTAL, 2);
+    let tally = group.end();
+    tally.expect(TOTAL, 2);
+    tally.expect(DEADLINE, 300);
 }

@@ -21,7 +21,7 @@ read-node-requires : tie.Need-read-node-requires
 read-node-requires c κs = search needs
 
 tell-fields-requires : tie.Need-tell-fields-requires
-tell-fields-requires c κs = both-roomy (now (c .before .before .before .before .before .before .args .fields)) (now (c .before .before .before .before .before .before .args .answer)) (c .before .before .if1 .left) .0
+tell-fields-requires c κs = both-roomy 6 (now (c .before .before .before .before .before .before .args .fields)) (now (c .before .before .before .before .before .before .args .answer)) (c .before .before .if1 .left) .0
 
 node-numbers-requires : tie.Need-node-numbers-requires
 node-numbers-requires c κs = search needs
@@ -30,7 +30,7 @@ slice-aggregate-tell : tie.Need-slice-aggregate-tell
 slice-aggregate-tell c = search needs
 
 tell-requires : tie.Need-tell-requires
-tell-requires c κs = omega (arith, both-roomy (now (c .before .before .before .before .before .before .before .before .before .before .before .before .args .fields)) (now (c .before .before .before .before .before .before .before .before .before .before .before .before .args .answer)) (c .before .before .before .before .before .before .before .before .if1 .left) .1)
+tell-requires c κs = omega (arith, both-roomy 6 (now (c .before .before .before .before .before .before .before .before .before .before .before .before .args .fields)) (now (c .before .before .before .before .before .before .before .before .before .before .before .before .args .answer)) (c .before .before .before .before .before .before .before .before .if1 .left) .1)
 
 array-read-result : tie.Need-array-read-result
 array-read-result c = search needs

@@ -23,7 +23,7 @@ read-requires c κs = search needs
 tell-header-requires : tie.Need-tell-header-requires
 tell-header-requires c κs =
     let start = c .before .before .before .before .before .before .args in
-    both-roomy (now (start .header)) (now (start .answer)) (c .before .before .if1 .left) .0
+    both-roomy 6 (now (start .header)) (now (start .answer)) (c .before .before .if1 .left) .0
 
 verdict-numbers-requires : tie.Need-verdict-numbers-requires
 verdict-numbers-requires c κs = search needs
@@ -34,7 +34,7 @@ slice-aggregate-tell c = search needs
 tell-requires : tie.Need-tell-requires
 tell-requires c κs =
     let start = c .before .before .before .before .before .before .before .before .before .before .before .before .args in
-    omega (arith, both-roomy (now (start .header)) (now (start .answer)) (c .before .before .before .before .before .before .before .before .if1 .left) .1)
+    omega (arith, both-roomy 6 (now (start .header)) (now (start .answer)) (c .before .before .before .before .before .before .before .before .if1 .left) .1)
 
 array-read-result : tie.Need-array-read-result
 array-read-result c = search needs

@@ -1,0 +1,3 @@
+pub mod Clock
+pub mod Laws
+pub mod Sounded

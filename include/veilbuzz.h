@@ -293,8 +293,8 @@ uint64_t veilbuzz_total(const uint8_t *chart, size_t chart_length,
  * microseconds; totals are of touches, so all else that takes time has to be in the overhead. A figure is a total times the period, rounded,
  * and that plus the overhead, rounded once more (rule 17.3): two roundings of binary64 to the nearest, ties to even, which are never fused
  * to one. A total is below 2^53, and so it is a double as it stands. Where the period is a power of two from 2^-30 to 1 the product is
- * exact: 411 cycles at 8 MHz, a period of 0.125, take 51.375. Elsewhere each rounding can put a figure up or down by half of the last place
- * that a double has, and so can the period itself: 0.1 is no double.
+ * exact, and with an overhead of 0 so is the figure: 411 cycles at 8 MHz, a period of 0.125, take 51.375. Else each rounding can put a
+ * figure up or down by half of the last place that a double has; and a period may be no double to begin with, as 0.1 is none.
  * Without a deadline it is always met; a latest time is met where the high figure is no more than `latest`; a window where also the low one
  * is no less than `earliest` (rule 17.4). What it returns is 0 for a deadline that is met and for one that is not:
  * answer[VEILBUZZ_DEADLINE_MET] alone tells them apart. The low and the high figure are told in the first two places of `figures`; after a

@@ -39,12 +39,12 @@ fn main() -> Result<(), Refusal> {
     }
 
     let (earliest, latest) = (LATEST, 0.0);
-    let round = judge(
+    let answer = judge(
         AS_BUILT,
         &Analysis::of(AS_BUILT)?,
         Deadline::Window { earliest, latest },
     );
-    if let Err(Refusal { number, place }) = round {
+    if let Err(Refusal { number, place }) = answer {
         println!("from {earliest} to {latest} us: refusal {number} at {place}");
     }
     Ok(())

@@ -1,6 +1,6 @@
 -- Soundings of what callers in other languages are told: each answer's numbers in their order; a header whose numbers are all different, so that
 -- no two can change places; lists with and without room for them, where one place fewer than an answer has is too few, and just as many are
--- enough; and what is left of all that is lent, whatever it held. Nothing here is a rule of the tool: it is what rules 12.8, 12.9 and 17.6 come to.
+-- enough; and what is left of all that is lent, whatever it held. Nothing here is a rule of the tool: it is what rules 11.18, 12.8, 12.9 and 17.6 come to.
 use Prim.Native.Nat.{ℕ, _+_, _≤_, _<_}
 use mathlib.Core.Bool.{true, false}
 use mathlib.Core.Path.{_≡_}

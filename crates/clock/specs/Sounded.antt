@@ -45,11 +45,11 @@ abbrev pub nanBits : ℕ
 nanBits = 0x7FF8000000000000
 
 -- 2 ^ -30, 0.125, 1, 2, 4, and 2.5 with the numbers next to it.
-abbrev pub eighth : ℕ
-eighth = 0x3FC0000000000000
-
 abbrev pub billionth : ℕ
 billionth = 0x3E10000000000000
+
+abbrev pub eighth : ℕ
+eighth = 0x3FC0000000000000
 
 abbrev pub one : ℕ
 one = 0x3FF0000000000000

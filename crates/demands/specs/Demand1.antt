@@ -1,8 +1,8 @@
 -- Demand 1, as those who ordered the tool put it: "Any bytes and any buffer lengths get an answer or a numbered refusal. What a refusal
 -- returns and leaves behind, and when each is given, is written down."
 -- The definitions answer for every input whatever; this is what they say of each refusal of the reader, of the header alone, of the analysis, of the
--- checker, of the totals, of a deadline, of the writer, of a node read alone and of the blocks listed: rules 3.4, 11.0 to 11.18, 12.1 to 12.3, 12.5 to
--- 12.8, 15.1 to 15.6 and 17.5. Proved as `demand1` in proofs/Demand1.antt.
+-- checker, of the totals, of a deadline, of the writer, of a node read alone and of the blocks listed: rules 3.4, 11.0 to 11.18, 12.1 to 12.3, 12.5
+-- to 12.8, 15.1 to 15.6 and 17.5. Proved as `demand1` in proofs/Demand1.antt.
 use Prim.Native.Nat.{ℕ, _*_, _≤_, _<_}
 use mathlib.Core.Path.{_≡_}
 use mathlib.Core.Bool.{true, false}
@@ -212,8 +212,8 @@ pub record Demand1 : Type 0 where
       → totalSays bytes table figures ≡ record { number = numberOf refusal; place = placeOf refusal; low = 0; high = 0 }
   -- no buffer grows or shrinks
   pub same-lengths : (bytes : List ℕ) (allowance : ℕ) (lent : Buffers) → SameLengths lent (analysed bytes allowance lent .buffers)
-  -- rules 12.7 and 17.5: checker, totals and deadline cannot tell two tables apart that differ beyond the used parts. That they write to nothing needs no field: what
-  -- is lent to them are `&` slices
+  -- rules 12.7 and 17.5: checker, totals and deadline cannot tell two tables apart that differ beyond the used parts. That they write to nothing
+  -- needs no field: what is lent to them are `&` slices
   pub checker-used : (bytes : List ℕ) (chart : Chart) (one other : Lent)
       → readChart bytes ≡ accepted chart
       → SameUsed (planOf chart) one other

@@ -26,13 +26,13 @@ judging bytes table figures clock deadline =
     ∷ judgeSays bytes table figures clock deadline .high
     ∷ []
 
--- 2.25 and 4.5, with their neighbours.
-abbrev pub least : ℕ
-least = 0x4002000000000000
-
 -- 0.25.
 abbrev pub quarter : ℕ
 quarter = 0x3FD0000000000000
+
+-- 2.25 with the number next above it, 4.5 with the one next below.
+abbrev pub least : ℕ
+least = 0x4002000000000000
 
 abbrev pub aboveLeast : ℕ
 aboveLeast = 0x4002000000000001

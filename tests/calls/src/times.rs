@@ -1,16 +1,15 @@
 //! The times that a deadline is asked with, as the bits of floats: any, and around the figures that come of them.
 
 use charts::random::Random;
-use charts::random_times::{above_zero, bits, impossible, zero};
+use charts::random_times::{above_zero, bits, no_time, zero, INFINITE, SMALLEST_NORMAL};
 use second::clock::ClockSheet;
 use second::deadline::{judged, Deadline};
 use second::totals::Totals;
 
-const INFINITE: u64 = f64::INFINITY.to_bits();
 const LARGEST: u64 = f64::MAX.to_bits();
 
 /// Twice as much has one of these more.
-const DOUBLING: u64 = 1 << 52;
+const DOUBLING: u64 = SMALLEST_NORMAL;
 
 /// A clock sheet and a deadline, as numbers of a call in the order of the parameters.
 pub struct Times {
@@ -84,9 +83,10 @@ fn size(random: &mut Random) -> Size {
 
 fn period(random: &mut Random, size: Size) -> u64 {
     match (random.below(24), size) {
-        (0, _) => no_time(random),
+        (0, _) => no_time_or_just_below(random),
         (1, _) => zero(random).to_bits(),
         (_, Size::Tiny) => tiny(random),
+        (2..=5, Size::Huge) => LARGEST,
         (_, Size::Huge) => LARGEST - bits(random) % (45 * DOUBLING),
         (2..=13, Size::Any) => thousandths(random),
         (_, Size::Any) => above_zero(random).to_bits(),
@@ -96,7 +96,7 @@ fn period(random: &mut Random, size: Size) -> u64 {
 /// What is added to a product: mostly so that the sum is rounded anew.
 fn overhead(random: &mut Random, size: Size, product: u64) -> u64 {
     match (random.below(24), size) {
-        (0, _) => no_time(random),
+        (0, _) => no_time_or_just_below(random),
         (1..=3, _) => zero(random).to_bits(),
         (_, Size::Tiny) => tiny(random),
         (4 | 5, Size::Huge) => LARGEST,
@@ -116,10 +116,10 @@ fn thousandths(random: &mut Random) -> u64 {
 }
 
 /// What is no time, and often just below 0.
-fn no_time(random: &mut Random) -> u64 {
+fn no_time_or_just_below(random: &mut Random) -> u64 {
     let float = match random.below(8) {
         0 => -f64::from_bits(tiny(random)),
-        _ => impossible(random),
+        _ => no_time(random),
     };
     float.to_bits()
 }
@@ -158,8 +158,8 @@ fn limits(random: &mut Random, kind: u64, [low, high]: [u64; 2]) -> [u64; 2] {
 /// A limit that is looked at or not, of a figure.
 fn limit(random: &mut Random, looked_at: bool, figure: u64) -> u64 {
     match random.below(24) {
-        0 | 1 => no_time(random),
-        2..=12 if !looked_at => no_time(random),
+        0 | 1 => no_time_or_just_below(random),
+        2..=12 if !looked_at => no_time_or_just_below(random),
         2 => zero(random).to_bits(),
         3 => LARGEST,
         4 => tiny(random),

@@ -10,6 +10,9 @@ use std::sync::OnceLock;
 
 const IMPOSSIBLE: u64 = 18;
 
+/// The times that a call can be given.
+const NAMES: [&str; 5] = ["period", "overhead", "earliest", "latest of a window", "latest"];
+
 /// A call of veilbuzz_deadline by what counts below. The totals are of one that these are given for.
 struct Asked {
     returned: u64,
@@ -145,15 +148,14 @@ impl Asked {
         self.looked_at().into_iter().filter(fault).collect()
     }
 
-    fn is_round(&self) -> bool {
+    fn is_wrong_way_round(&self) -> bool {
         self.kind == 2 && f64::from_bits(self.latest) < f64::from_bits(self.earliest)
     }
 }
 
 #[test]
 fn each_time_alone_is_at_fault_in_each_way() {
-    let names = ["period", "overhead", "earliest", "latest of a window", "latest"];
-    let mut expected: Vec<_> = names
+    let mut expected: Vec<_> = NAMES
         .iter()
         .flat_map(|&name| NO_TIMES.map(|sort| (name, sort)))
         .collect();
@@ -175,16 +177,15 @@ fn windows_are_the_wrong_way_round_and_kinds_are_not_there() {
     each(
         20,
         [(true, true), (false, false)],
-        alone.map(|asked| (asked.kind < 3, asked.is_round())),
+        alone.map(|asked| (asked.kind < 3, asked.is_wrong_way_round())),
     );
 }
 
 #[test]
 fn each_time_that_passes_is_of_each_sort() {
-    let names = ["period", "overhead", "earliest", "latest of a window", "latest"];
-    let expected = names.iter().flat_map(|&name| TIMES.map(|sort| (name, sort)));
-    // a period is not 0, and with the largest all but 0 is too large
-    let expected = expected.filter(|&(name, sort)| name != "period" || !["0", "-0", "the largest"].contains(&sort));
+    let expected = NAMES.iter().flat_map(|&name| TIMES.map(|sort| (name, sort)));
+    // a period is not 0
+    let expected = expected.filter(|&(name, sort)| name != "period" || !["0", "-0"].contains(&sort));
     each(20, expected, judged().flat_map(|asked| asked.looked_at()));
 }
 
@@ -204,7 +205,7 @@ fn a_limit_that_is_not_looked_at_is_of_each_sort() {
 
 #[test]
 fn each_refusal_comes_before_impossible_times() {
-    let before = all_asked().filter(|asked| !asked.faults().is_empty() || asked.is_round() || asked.kind > 2);
+    let before = all_asked().filter(|asked| !asked.faults().is_empty() || asked.is_wrong_way_round() || asked.kind > 2);
     let numbers = (1..=17).filter(|&number| number != 12);
     each(3, numbers, before.map(|asked| asked.returned));
 }

@@ -4,8 +4,9 @@ use crate::random::Random;
 
 /// The bits of 1.0, of the smallest float that has all its digits, and of infinity; and the bit of a sign.
 const ONE: u64 = 1.0_f64.to_bits();
-const SMALLEST_NORMAL: u64 = 1 << 52;
-const INFINITE: u64 = 0x7FF << 52;
+/// The bits of the smallest float that has all its digits; so many more are twice as much.
+pub const SMALLEST_NORMAL: u64 = 1 << 52;
+pub const INFINITE: u64 = f64::INFINITY.to_bits();
 const SIGN: u64 = 1 << 63;
 
 /// 1.0 halved so many times, far from the smallest float.
@@ -60,7 +61,7 @@ pub fn zero(random: &mut Random) -> f64 {
 }
 
 /// What is no time: a NaN of any kind, an infinity, a float below zero.
-pub fn impossible(random: &mut Random) -> f64 {
+pub fn no_time(random: &mut Random) -> f64 {
     let sign = any_of(random, [0, SIGN]);
     let bits = match random.below(3) {
         0 => {
@@ -79,7 +80,7 @@ pub fn any(random: &mut Random) -> f64 {
     match random.below(8) {
         0 => f64::from_bits(bits(random)),
         1 => zero(random),
-        2 => impossible(random),
+        2 => no_time(random),
         _ => above_zero(random),
     }
 }

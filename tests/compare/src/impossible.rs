@@ -48,14 +48,14 @@ fn reasons(sheet: Sheet) -> Vec<usize> {
     let zero = (sheet.period == 0.0).then_some(usize::from(sheet.period.is_sign_negative()));
     let latest = no_time(sheet.latest, 8).filter(|_| [1, 2].contains(&sheet.kind));
     let earliest = no_time(sheet.earliest, 11).filter(|_| sheet.kind == 2);
-    let round = sheet.kind == 2 && latest.is_none() && earliest.is_none() && sheet.latest < sheet.earliest;
+    let wrong_way_round = sheet.kind == 2 && latest.is_none() && earliest.is_none() && sheet.latest < sheet.earliest;
     let all = [
         zero,
         no_time(sheet.period, 2),
         no_time(sheet.overhead, 5),
         latest,
         earliest,
-        round.then_some(14),
+        wrong_way_round.then_some(14),
         (sheet.kind > 2).then_some(15),
     ];
     all.into_iter().flatten().collect()

@@ -2,6 +2,7 @@
 
 use crate::sheet::Sheet;
 use crate::tally::Tally;
+use charts::random_times::{INFINITE, SMALLEST_NORMAL};
 use second::rounding::DIGITS;
 use second::time::{units, Time};
 use second::whole::Whole;
@@ -32,11 +33,9 @@ pub fn count(tally: &mut Tally, total: u64, sheet: Sheet, figure: u64) {
 }
 
 fn kind(figure: u64) -> usize {
-    const WITH_ALL_DIGITS: u64 = 1 << 52;
-    const INFINITE: u64 = f64::INFINITY.to_bits();
     match figure {
         0 => 0,
-        1..WITH_ALL_DIGITS => 1,
+        1..SMALLEST_NORMAL => 1,
         INFINITE.. => 4,
         _ if figure == INFINITE - 1 => 3,
         _ => 2,

@@ -2,19 +2,18 @@
 
 use crate::sheet::Sheet;
 use charts::random::Random;
-use charts::random_times::{above_zero, any, bits, impossible, zero};
+use charts::random_times::{above_zero, any, bits, no_time, zero, INFINITE, SMALLEST_NORMAL};
 use second::clock::{Clock, ClockSheet};
 use veilbuzz::{Refusal, Totals};
 
 /// The bits of a float but its exponent and its sign.
-const FRACTION: u64 = (1 << 52) - 1;
-const INFINITE: u64 = f64::INFINITY.to_bits();
+const FRACTION: u64 = SMALLEST_NORMAL - 1;
 
 /// A sheet with a clock for these totals and limits for what they come to.
 pub fn drawn(random: &mut Random, totals: Result<Totals, Refusal>) -> Sheet {
     let total = totals.map_or(1, |totals| [totals.low, totals.high][random.below(2) as usize]);
     let clock = clock(random, total);
-    timed(random, totals, clock)
+    with_limits(random, totals, clock)
 }
 
 /// The bits of what both totals come to; 0 if there are none, or the clock is impossible.
@@ -29,7 +28,7 @@ fn figure(total: u64, clock: ClockSheet) -> u64 {
 }
 
 /// A sheet with this clock and limits for what the totals come to.
-pub fn timed(random: &mut Random, totals: Result<Totals, Refusal>, clock: ClockSheet) -> Sheet {
+pub fn with_limits(random: &mut Random, totals: Result<Totals, Refusal>, clock: ClockSheet) -> Sheet {
     let kind = kind(random);
     let [low, high] = figures(totals, clock);
     let (earliest, latest) = match random.below(8) {
@@ -57,7 +56,7 @@ pub fn clock(random: &mut Random, total: u64) -> ClockSheet {
     let period = match random.below(24) {
         0 => any(random),
         1 => zero(random),
-        2 => impossible(random),
+        2 => no_time(random),
         _ => above_zero(random),
     };
     let overhead = match random.below(12) {
@@ -99,7 +98,7 @@ fn limit(random: &mut Random, figure: u64) -> f64 {
         9 | 10 => (figure + (bits(random) >> random.within(8, 63))).min(INFINITE),
         11 => zero(random).to_bits(),
         12 => any(random).to_bits(),
-        13 => impossible(random).to_bits(),
+        13 => no_time(random).to_bits(),
         _ => above_zero(random).to_bits(),
     };
     f64::from_bits(near)

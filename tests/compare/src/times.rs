@@ -5,6 +5,7 @@ use crate::impossible;
 use crate::roundings;
 use crate::sheet::Sheet;
 use crate::tally::Tally;
+use charts::random_times::INFINITE;
 use second::time::units;
 use std::cmp::Ordering;
 use veilbuzz::{Refusal, Totals};
@@ -103,7 +104,6 @@ fn beside(limit: f64, figure: u64) -> usize {
 }
 
 fn verdict(tally: &mut Tally, sheet: Sheet, timed: Timed) {
-    const INFINITE: u64 = f64::INFINITY.to_bits();
     let [low, high] = timed.figures;
     let infinite = high == INFINITE;
     let early = sheet.kind == 2 && beside(sheet.earliest, low) > 2;

@@ -25,7 +25,7 @@ impl WalkTimes {
 
     /// Asks for a deadline of such totals.
     pub fn hold(&mut self, random: &mut Random, tally: &mut Tally, asked: &Asked) -> Held {
-        let sheet = sheets::timed(random, asked.totals, self.clock);
+        let sheet = sheets::with_limits(random, asked.totals, self.clock);
         if let (Ok(totals), Some(timed)) = (asked.totals, deadlines::ask(random, tally, asked, sheet)?) {
             laws::walk(tally, self.paid, sheet, timed)?;
             self.figures.add(totals, timed);

@@ -54,7 +54,7 @@ pub struct Judged {
     pub met: bool,
 }
 
-/// The totals under a table that passes, judged; or one of refusals 1 to 11 and 13 to 18. No deadline at all is a kind that there is not.
+/// The totals under a table that passes, judged; or one of refusals 1 to 11 and 13 to 18. Nothing in the place of a deadline stands for a kind that there is not.
 pub fn deadline(
     bytes: &[u8],
     lent: Lent,

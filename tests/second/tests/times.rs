@@ -1,14 +1,13 @@
 //! Times without a float unit, beside this machine's own floats: bits, products, sums and order; and some worked out by hand.
 
 use charts::random::Random;
-use charts::random_times::{above_zero, any, bits, impossible, zero};
+use charts::random_times::{above_zero, any, bits, no_time, zero, SMALLEST_NORMAL};
 use second::rounding::nearest;
 use second::time::{units, Time};
 use second::whole::Whole;
 
 const DRAWN: u64 = 200_000;
 
-const SMALLEST_NORMAL: u64 = 1 << 52;
 const LARGEST: u64 = (0x7FF << 52) - 1;
 
 /// The units of a float that has some.
@@ -144,7 +143,7 @@ fn what_is_not_finite_or_below_zero_is_no_time() {
         let float = any(&mut random);
         let is_time = float.is_finite() && float >= 0.0;
         assert_eq!(units(float).is_some(), is_time, "{:016x}", float.to_bits());
-        assert_eq!(units(impossible(&mut random)), None);
+        assert_eq!(units(no_time(&mut random)), None);
         no_times += u64::from(!is_time);
     }
     assert!(no_times > DRAWN / 10, "only {no_times} were no times");

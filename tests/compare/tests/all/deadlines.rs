@@ -79,7 +79,8 @@ fn every_period_with_every_overhead() {
 #[test]
 fn every_two_limits_of_each_kind() {
     let mut group = Group::of("two limits of each kind");
-    // 2 and 20 come to 0.25 and 2.5, to both sides of the largest, to infinity, and to 0.25 and 2.5 units of the smallest
+    // 2 and 20 come to 0.25 and 2.5 twice, to figures that are rounded, to 2 and 20 of the smallest, to both sides of the largest, to infinity
+    // twice; and a period of 0
     for (period, overhead) in [
         (0.125, 0.0),
         (0.125, -0.0),
@@ -118,7 +119,7 @@ fn each_limit_at_its_figure_and_beside_it() {
         with_totals(&mut group, low, high, |random, tally, asked| {
             for _ in 0..600 {
                 let clock = sheets::clock(random, high.into());
-                let sheet = sheets::timed(random, asked.totals, clock);
+                let sheet = sheets::with_limits(random, asked.totals, clock);
                 let [low, high] = sheets::figures(asked.totals, clock);
                 let around = |figure: u64| {
                     let next = [figure.saturating_sub(1), figure, figure + 1].map(f64::from_bits);

@@ -59,7 +59,7 @@ fn figures_grow_with_their_totals() {
                 let asked = lent.asked(tally, chart)?;
                 let sheet = Sheet {
                     kind: 0,
-                    ..sheets::timed(random, asked.totals, clock)
+                    ..sheets::with_limits(random, asked.totals, clock)
                 };
                 if let (Ok(totals), Some(timed)) = (asked.totals, deadlines::ask(random, tally, &asked, sheet)?) {
                     grown.add(totals, timed);

@@ -5,7 +5,6 @@ use Prim.Native.Nat.{ℕ, _*_}
 use native.Mathlib.Nat.{zero-mul}
 use native.Mathlib.Omega.{arith}
 use borrow.Author.Tests.{not-false, ltb-true, ltb-false, eq-eqb, ne-eqb}
-use lib.IntN.{ℤ}
 use lib.Dec.{T}
 use lib.Ieee.{Float, nan, inf, fin, up, down, lt, eq, le, below, level}
 use lib.Ieee.Scale.{finite}

@@ -1,18 +1,16 @@
 -- Floats that are not below zero, the infinity among them: of finite ones the order is that of the fractions that they are, and the order of all
 -- goes on.
-use mathlib.Core.Path.{_≡_, refl, sym, ap, subst, _∙_}
+use mathlib.Core.Path.{_≡_, refl, sym, ap}
 use mathlib.Core.Bool.{Bool, true, false, _&&_, _||_, true≢false}
-use Prim.Native.Nat.{ℕ, zero, suc, _+_, _*_, _≤_, _<_}
-use native.Mathlib.Nat.{le-of-eq, zero-mul, mul-one, le-of-lt}
+use Prim.Native.Nat.{ℕ, _+_, _*_, _≤_}
+use native.Mathlib.Nat.{le-of-eq, zero-mul, le-of-lt}
 use native.Mathlib.Omega.{arith}
-use borrow.Author.Tests.{ltb-true, ltb-false, eqb-true, lt-ltb, le-ltb, eq-eqb, ne-eqb}
-use lib.IntN.{ℤ}
+use borrow.Author.Tests.{ltb-true, ltb-false, eqb-true, le-ltb, eq-eqb}
 use lib.Dec.{T, ltb, eqb}
 use lib.Ieee.{Float, nan, inf, fin, up, down, lt, eq, le, below, level}
 use lib.Ieee.Scale.{finite}
 use lib.Ieee.Positive.{num, den, den-pos, through}
-use Rattle.lists.proofs.Choice.{or-false}
-use Rattle.clock.specs.Clock.{zeroTime, improper}
+use Rattle.clock.specs.Clock.{improper}
 
 -- Not a number below zero, and a number. A zero may have either sign.
 abbrev pub NotBelow : Float → Type 0

@@ -1,16 +1,14 @@
 -- Totals of costs, floors and ceilings of 16 bits are below 2^53: there are no more nodes than a chart may have, of two touches each, and each
 -- touch counts at most 65,535 times 65,535; and for each block, of which there are no more than a chart may have, the high total has at most 65,535
 -- more.
-use Prim.Native.Nat.{ℕ, suc, _+_, _-_, _*_, _^_, _≤_, _<_}
-use mathlib.Core.Bool.{Bool, true, false, cond, _||_}
-use mathlib.Core.List.{List, [], _∷_, map}
+use Prim.Native.Nat.{ℕ, suc, _-_, _*_, _^_, _≤_, _<_}
+use mathlib.Core.Bool.{Bool, true, false, cond}
+use mathlib.Core.List.{List, [], _∷_}
 use mathlib.Core.Path.{_≡_, refl, sym, ap, subst, _∙_}
 use native.Mathlib.Nat.{mul-le-mul, le-trans, suc-mul}
 use native.Mathlib.Omega.{arith}
 use lib.Dec.{eqb}
 use lib.ListN.{length, getD, length-map}
-use Rattle.lists.specs.Choice.{firstCase}
-use Rattle.lists.specs.Lists.{sumOf}
 use Rattle.lists.proofs.Choice.{none-applies, first-otherwise}
 use Rattle.lists.proofs.Sums.{sum-most, flags-most}
 use Rattle.chart.specs.declared.shape.Geometry.{Geometry}
@@ -22,13 +20,12 @@ use Rattle.chart.specs.Chart.{Chart, Read, accepted, refused, readChart, touche
 use Rattle.chart.proofs.Accepted.{accepted-nodes, accepted-few}
 use Rattle.flow.specs.Flow.{Cell, blank, holds, cellAt}
 use Rattle.cache.specs.Ages.{Ages}
-use Rattle.ages.specs.Plan.{ColumnTouch, Plan, touchesIn}
+use Rattle.ages.specs.Plan.{ColumnTouch, touchesIn}
 use Rattle.ages.specs.Charted.{columnTouch, planOf}
 use Rattle.ages.proofs.Charting.{touches-planned}
 use Rattle.classes.specs.Class.{wholeAt, classOf, wholeAfter, classesBy}
-use Rattle.costs.specs.Costs.{Costs, Figures, ratesOf, visitCost, classesAt, highRate, lowRate, totalBy, keptCharge, chargedFor, highTotal, lowTotal}
+use Rattle.costs.specs.Costs.{Figures, ratesOf, visitCost, classesAt, highRate, lowRate, totalBy, keptCharge, chargedFor, highTotal, lowTotal}
 use Rattle.tables.specs.Lent.{Lent, tableOf}
-use Rattle.totals.specs.declared.Totals.{Totals}
 use Rattle.totals.specs.declared.Totals.the-variants.{Between, Refused}
 use Rattle.totals.specs.Totals.{totalCases, bothTotals, totalRead, totals}
 use Rattle.totals.proofs.Summing.{low-rate-most, high-rate-most}

@@ -2,7 +2,7 @@
 use Prim.Native.Nat.{ℕ, _^_, _≤_, _<_}
 use mathlib.Core.Bool.{true≢false}
 use mathlib.Core.List.{List}
-use mathlib.Core.Path.{_≡_, refl, sym, ap, subst, _∙_}
+use mathlib.Core.Path.{_≡_, refl, sym, subst, _∙_}
 use native.Mathlib.Omega.{arith}
 use lib.Dec.{T}
 use lib.Ieee.{Float, binary64, le}
@@ -11,7 +11,7 @@ use Rattle.chart.specs.Chart.{Chart}
 use Rattle.clock.specs.declared.ClockSheet.{ClockSheet}
 use Rattle.clock.specs.declared.Deadline.{Deadline}
 use Rattle.clock.specs.Clock.{figureOf}
-use Rattle.clock.specs.Laws.{NoSign, TimesFit, Limited, KeepsTo}
+use Rattle.clock.specs.Laws.{NoSign, Limited, KeepsTo}
 use Rattle.clock.proofs.Rounded.{whole-is}
 use Rattle.clock.proofs.Fitting.{between-keeps, both-meet, met-finite}
 use Rattle.clock.proofs.Rising.{figure-no-sign, figure-rounded, figure-rises}
@@ -19,14 +19,11 @@ use Rattle.clock.proofs.Exact.{product-exact, figure-exact, keeps-exactly, exac
 use Rattle.machine.specs.Machine.{Contents}
 use Rattle.costs.specs.Costs.{Figures}
 use Rattle.tables.specs.Lent.{Lent}
-use Rattle.totals.specs.declared.Totals.{Totals}
 use Rattle.totals.specs.declared.Totals.the-variants.{Between}
-use Rattle.totals.specs.Totals.{totals, totalsSay}
 use Rattle.deadline.specs.declared.Judged.{Judged}
 use Rattle.deadline.specs.Deadline.{lowFigure, highFigure, judged, judgedSay}
 use Rattle.deadline.specs.Widths.{SixteenBits}
 use Rattle.deadline.proofs.Below.{totals-below}
-use Rattle.demands.specs.Demand3.{CostBetween}
 use Rattle.demands.specs.OnTime.{JudgedWalk, costAlong, OnTime}
 use Rattle.demands.proofs.Demand3.{demand3}
 use Rattle.demands.proofs.Judging.{Verdict, verdict-of, met-number}

@@ -1,8 +1,8 @@
 /* Veilbuzz for C: does a memory reference always hit the cache, always miss, miss once at the most, or can it not be told?
  *
  * Link with the archive that tests/archive makes:  cc -Iinclude mine.c "$(tests/archive)/libboundary.a"
- * examples/loop.c, examples/make.c and examples/deadline.c are whole programs; docs/HEX.md has the chart's bits, docs/REFUSALS.md each
- * refusal at length.
+ * examples/loop.c, examples/make.c, examples/deadline.c and examples/bound.c are whole programs; docs/HEX.md has the chart's bits,
+ * docs/REFUSALS.md each refusal at length.
  *
  * What the functions answer and leave is proved of their source, for any bytes and any lengths: each ends, and writes only what is said
  * here. That the compiled code and these declarations agree with that source is tried by tests (docs/ASSURANCE.md). The functions
@@ -11,15 +11,16 @@
  *
  * What a caller has to keep, since C cannot say it:
  *   - behind each pointer there are as many elements as the length after it says, set to something and aligned: uint16_t to 2 bytes,
- *     uint32_t to 4, uint64_t and double to 8. Where the length is 0 nothing is looked at, and the pointer may be NULL;
+ *     uint32_t to 4, uint64_t, int64_t and double to 8. Where the length is 0 nothing is looked at, and the pointer may be NULL;
  *   - a buffer that is written overlaps no other of the same call; those that are only read may overlap. Where it does overlap, nothing is
  *     promised: what is answered and left may be anything, and passes may go on for the whole allowance;
  *   - while a call runs, nobody else writes to what it was lent, and nobody else reads what it writes;
  *   - veilbuzz_deadline, which alone has floating-point numbers, finds the settings that a C program starts with: what is rounded goes to
  *     the nearest number, and to the even one of two that are as near; subnormal numbers are not taken for 0; and no exception traps,
  *     though flags may be raised. With -ffast-math or -Ofast, even if the linker alone is given it, a whole program can start otherwise.
- * Costs and bounds have 16 bits: C cuts a larger number without a word, unless -Wconversion is given. All numbers that veilbuzz_write takes
- * have 64 bits, more than any field of a chart: one that is too large for its field arrives whole, and is refused and not cut.
+ * Costs, floors and ceilings have 16 bits: C cuts a larger number without a word, unless -Wconversion is given. All numbers that
+ * veilbuzz_write takes have 64 bits, more than any field of a chart: one that is too large for its field arrives whole, and is refused and not
+ * cut. So have those of facts and certificates, which are refused out of their ranges.
  *
  * Below, N is the chart's number of nodes, B its number of blocks, and A the ways in a set. A reference to one, two or four bytes touches the
  * block of its first byte, and then that of its last byte if that is another; a bare step touches none.
@@ -54,6 +55,15 @@ enum {
     VEILBUZZ_ENOUGH_PASSES = VEILBUZZ_MOST_NODES * (1 + 2 * VEILBUZZ_MOST_BLOCKS * VEILBUZZ_MOST_WAYS) + 1
 };
 
+/* Ranges of the numbers that veilbuzz_bound takes (rule 18.8), in which no sum of it is too large. Those that an enum cannot hold are macros. */
+enum {
+    VEILBUZZ_MOST_COEFFICIENT = 1 << 24, /* of each coefficient: from minus this up to this */
+    VEILBUZZ_MOST_LIMIT = 1 << 24        /* of each limit, likewise */
+};
+#define VEILBUZZ_MOST_MULTIPLIERS (INT64_C(1) << 36)  /* of all multipliers together; each is from 0 on */
+#define VEILBUZZ_MOST_POTENTIAL (INT64_C(1) << 60)    /* of each potential: from minus this up to this */
+#define VEILBUZZ_MOST_DENOMINATOR (UINT64_C(1) << 32) /* of the denominator: from 1 up to this */
+
 /* An answer: numbers, in these places of `answer`. The first two are the same for every function; what comes after them is a function's
  * own, and is 0 after a refusal, 12 apart. A longer `answer` keeps its tail. Where `answer` is shorter than its function's answer, the
  * `header` of veilbuzz_read shorter than a header, the `fields` of veilbuzz_node shorter than a node's, or the `figures` of
@@ -61,7 +71,7 @@ enum {
  * was lent has changed, neither of these lists nor any other buffer. */
 enum {
     VEILBUZZ_ANSWER_NUMBER = 0, /* the refusal's number, 0 for none; also what the function returns */
-    VEILBUZZ_ANSWER_PLACE = 1,  /* the node at fault for refusals 9, 10, 16 and 17, else 0 */
+    VEILBUZZ_ANSWER_PLACE = 1,  /* the node at fault for refusals 9, 10, 16, 17 and 25, else 0 */
     VEILBUZZ_LONGEST_ANSWER = 4 /* room for the answer of any function */
 };
 enum {
@@ -97,6 +107,10 @@ enum {
 enum {
     VEILBUZZ_DEADLINE_MET = 2, /* 1 where the deadline is met */
     VEILBUZZ_DEADLINE_LENGTH = 3
+};
+enum {
+    VEILBUZZ_BOUND_BOUND = 2, /* the bound of the side that was asked for */
+    VEILBUZZ_BOUND_LENGTH = 3
 };
 
 /* The header that veilbuzz_read tells: six numbers, in these places of `header`. A longer one keeps its tail. */
@@ -135,6 +149,12 @@ enum {
     VEILBUZZ_DEADLINE_WINDOW = 2  /* an earliest and a latest time; both */
 };
 
+/* Which bound veilbuzz_bound is asked for. */
+enum {
+    VEILBUZZ_SIDE_HIGH = 0, /* what a walk costs at most */
+    VEILBUZZ_SIDE_LOW = 1   /* what it costs at least */
+};
+
 /* What the cache holds when a walk begins. */
 enum {
     VEILBUZZ_START_UNKNOWN = 0,
@@ -171,10 +191,11 @@ enum {
     VEILBUZZ_CLASS_KEPT = 5       /* the touch hits, but for one at most of those of its block that are called so */
 };
 
-/* The refusals, rules 11.1 to 11.18 of docs/RULES.md, looked for one after another as they stand here; what is found first is given. Only
- * whether `answer`, `header`, `fields` and `figures` are too short is looked at before all others. Where several nodes are at fault, the
- * first one is told. What veilbuzz_write is given is a chart's fields and not its bytes, so that 1, 2 and 7 cannot apply; 3 to 6, 9 and 10
- * it gives as veilbuzz_read does, with the same place, and so too where a number is too large for its field.
+/* The refusals, section 11 of docs/RULES.md, 23 to 25 of certificates (section 18), looked for one after another as they stand here; what is found
+ * first is given. No function gives 19 to 22 yet. Only whether `answer`, `header`, `fields` and `figures` are too short is looked at before
+ * all others. Where several nodes are at fault, the first one is told. What veilbuzz_write is given is a chart's fields and not its bytes, so
+ * that 1, 2 and 7 cannot apply; 3 to 6, 9 and 10 it gives as veilbuzz_read does, with the same place, and so too where a number is too large
+ * for its field.
  *
  *   no.  given if                                               place        what to do
  *    1   the chart has fewer than 8 bytes                       0            give the whole file
@@ -193,8 +214,9 @@ enum {
  *   10   it has more blocks than VEILBUZZ_MOST_BLOCKS: the      that node    split the chart as docs/REFUSALS.md tells
  *        node, in node order, that brings the first too many
  *   11   a buffer has fewer places than are used, and is        0            lend N, 2 * N, B, N * B or 8 + 8 * N elements, as said
- *        neither floors, ceilings nor one of the six lists                   below, and the lengths named above for `answer`,
- *        that veilbuzz_write is given                                        `header`, `fields` and `figures`
+ *        neither floors, ceilings, one of the six lists that                 below, and the lengths named above for `answer`,
+ *        veilbuzz_write is given nor one of the four of                      `header`, `fields` and `figures`
+ *        facts and a certificate
  *   12   every pass of the allowance has changed something      0            allow VEILBUZZ_ENOUGH_PASSES
  *   13   the table does not pass                                0            lend the one that veilbuzz_analyse wrote
  *   14   there are not just N floors, or not just N ceilings    0            one number for each node
@@ -205,6 +227,15 @@ enum {
  *        an overhead, or a limit that is looked at, which is                 period above 0: 8 MHz is 0.125; swap a window's limits,
  *        a NaN, infinite or below 0; a window whose latest                   if they were swapped
  *        time is before its earliest; no such kind
+ *   23   of F limits: there are not just F * N coefficients,    0            one coefficient for each fact and node, one multiplier
+ *        not just F multipliers, or not just N potentials                    for each fact, one potential for each node
+ *   24   a coefficient, a limit, a multiplier, all multipliers  0            keep to the ranges above, by a smaller denominator if
+ *        together, a potential or the denominator is out of                  need be
+ *        its range; no such side
+ *   25   the certificate does not hold at a node: the node is   that node    make the certificate for this chart, these costs, these
+ *        the entry, and its own potential is too small; or it                facts and this side
+ *        is marked, and too small is that of a node that an
+ *        arrow leads to from it
  */
 
 /* Reads a chart, as a caller does first who wants to know N and B: refusals 1 to 10, and 11 for `header` and `answer`. Where none of them
@@ -312,6 +343,43 @@ uint64_t veilbuzz_deadline(const uint8_t *chart, size_t chart_length,
                            uint64_t kind, double earliest, double latest,
                            double *figures, size_t figures_length,
                            uint64_t *answer, size_t answer_length);
+
+/* A bound on the cost of each walk that keeps to facts, as a certificate shows it: refusals 1 to 11, 13 and 15 as veilbuzz_total gives
+ * them, and after them 23 to 25.
+ * A walk keeps a fact if its visits of the nodes, each times the fact's coefficient at the node, come to no more than the fact's limit
+ * (rule 18.1). Of F facts there are F `limits`, and F * N `coefficients`: the N of the first fact, node 0 first, then those of the second, and
+ * so on. Both may be below 0. That a node is come to no more than c times is a fact: 1 at that node, 0 at all others, and the limit c; no
+ * fewer than f times: -1 there, and the limit -f; two nodes together no more than 10 times: 1 at both, and the limit 10. F may be 0. Whether
+ * walks keep the facts nobody looks at: that is the caller's to know.
+ * A certificate is one of `multipliers` for each fact, none below 0, one of `potentials` for each node, which may be below 0, and a
+ * `denominator` D: multipliers and potentials count D-ths. Anybody may make it, say from the dual of a linear program, since all of it is
+ * checked. It is for one `side`. A visit of a node is left with D times what one visit counts in the high total, first loads apart, or for
+ * the low side with minus D times what it counts in the low total, in either case 0 at a node without a mark; and of that is taken away, for
+ * each fact, the multiplier times the coefficient at the node (rule 18.3). The certificate holds at a node if (rule 18.4)
+ *   - the node is not the entry, or its potential is no less than what a visit of it is left with; and
+ *   - the node has no mark, or for each arrow out of it the potential of the arrow's target is no less than the node's own and what a visit
+ *     of the target is left with, both together.
+ * Let Z be the largest potential of a marked node, and to it for each fact the multiplier times the limit. The high bound is Z / D, rounded
+ * down, and 0 where Z is below 0; and to it comes `miss` less `hit`, once for each block that is touched at a marked node where that touch is
+ * called kept, but for nodes that a fact rules out: a limit of 0 or less, no coefficient below 0, and one above 0 at that node. The low bound
+ * is -Z / D, rounded up, and 0 where Z is above 0 (rules 18.5 to 18.7).
+ * So take a walk from the chart's entry and start that keeps all facts, and pays for each touch as it does for veilbuzz_total: it costs no
+ * more than the high bound, and no less than the low one. A certificate that does not hold at some node is refused and never repaired; one
+ * that is needlessly large gives a bound that is true and too wide. With floors and ceilings as facts, D 1, potentials of 0, and as the
+ * multiplier of each ceiling, or of each floor, what one visit counts there, the bounds are just the two totals. The table is read as
+ * veilbuzz_check reads it. It writes `answer` alone. */
+uint64_t veilbuzz_bound(const uint8_t *chart, size_t chart_length,
+                        const uint8_t *must, size_t must_length,
+                        const uint8_t *may, size_t may_length,
+                        const uint8_t *marks, size_t marks_length,
+                        uint16_t hit, uint16_t miss,
+                        uint64_t side,
+                        const int64_t *coefficients, size_t coefficients_length,
+                        const int64_t *limits, size_t limits_length,
+                        const int64_t *multipliers, size_t multipliers_length,
+                        const int64_t *potentials, size_t potentials_length,
+                        uint64_t denominator,
+                        uint64_t *answer, size_t answer_length);
 
 #ifdef __cplusplus
 }

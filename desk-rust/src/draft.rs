@@ -1,5 +1,6 @@
 //! What a text says, line by line, before its names are looked up and before the writer is asked.
 
+use crate::lexer::{Line, Token};
 use crate::number::Placed;
 use crate::problem::Problems;
 use crate::source::Span;
@@ -22,6 +23,10 @@ pub struct Draft<'a> {
     pub count: usize,
     /// The numbers of those nodes, by name.
     pub numbers: HashMap<&'a str, usize>,
+    /// The first lines of facts, each by its word and what follows it: one more than a text can have, at most.
+    pub facts: Vec<(Token<'a>, Line<'a>)>,
+    /// How many lines of facts there are in all.
+    pub fact_count: usize,
     pub problems: Problems,
 }
 
@@ -78,6 +83,8 @@ impl Draft<'_> {
             nodes: vec![],
             count: 0,
             numbers: HashMap::new(),
+            facts: vec![],
+            fact_count: 0,
             problems: Problems::default(),
         }
     }

@@ -1,6 +1,7 @@
 //! What a refusal means, from the page that explains all of them.
 
 use crate::trouble::Trouble;
+use crate::words::listed;
 
 const PAGE: &str = include_str!("../../docs/REFUSALS.md");
 
@@ -29,13 +30,18 @@ fn section(section: &'static str) -> Option<Explained> {
 
 /// The section of a number.
 pub fn explained(number: &str) -> Result<Explained, Trouble> {
-    let all = all();
-    let last = all.last().map_or(0, |last| last.number);
     let wanted = number.parse().ok();
-    let found = all.into_iter().find(|section| Some(section.number) == wanted);
+    let found = all().into_iter().find(|section| Some(section.number) == wanted);
     found.ok_or_else(|| {
-        Trouble::Usage(format!(
-            "there is no refusal '{number}'; they are numbered from 1 to {last}"
-        ))
+        let runs = listed(&runs(), "and");
+        Trouble::Usage(format!("there is no refusal '{number}'; they are numbered {runs}"))
     })
+}
+
+/// The numbers that there are, as `from 1 to 18`: some are set aside.
+fn runs() -> Vec<String> {
+    let numbers: Vec<u64> = all().iter().map(|section| section.number).collect();
+    let runs = numbers.chunk_by(|one, next| one + 1 == *next);
+    runs.map(|run| format!("from {} to {}", run[0], run[run.len() - 1]))
+        .collect()
 }

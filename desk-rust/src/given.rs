@@ -6,10 +6,18 @@ use crate::trouble::Trouble;
 use crate::words::listed;
 use veilbuzz::{Bounds, Costs};
 
+/// As many visits as can be said.
+const ANY: Visits = Visits {
+    floor: 0,
+    ceiling: u16::MAX,
+};
+
 pub struct Given {
     pub costs: Costs,
     /// Whether a cost was given at the call, and not by the text.
     pub at_the_call: bool,
+    /// Whether each node's visits are said. Where they are not, a node may have as many as can be said.
+    pub whole: bool,
     floors: Vec<u16>,
     ceilings: Vec<u16>,
 }
@@ -20,15 +28,19 @@ impl Given {
         let at_the_call = hit.is_some() || miss.is_some();
         let hit = hit.or(known.costs.map(|costs| costs.hit));
         let miss = miss.or(known.costs.map(|costs| costs.miss));
-        let visits: Option<Vec<Visits>> = known.nodes.iter().map(|node| node.visits).collect();
-        let (Some(hit), Some(miss), Some(visits)) = (hit, miss, visits) else {
+        let whole = known.nodes.iter().all(|node| node.visits.is_some());
+        // facts may say enough without the visits of each node
+        let (Some(hit), Some(miss), true) = (hit, miss, whole || !known.facts.is_empty()) else {
             return Err(missing(known, hit, miss));
         };
+        let visits = known.nodes.iter().map(|node| node.visits.unwrap_or(ANY));
+        let (floors, ceilings) = visits.map(|visits| (visits.floor, visits.ceiling)).unzip();
         Ok(Given {
             costs: Costs { hit, miss },
             at_the_call,
-            floors: visits.iter().map(|visits| visits.floor).collect(),
-            ceilings: visits.iter().map(|visits| visits.ceiling).collect(),
+            whole,
+            floors,
+            ceilings,
         })
     }
 
@@ -38,6 +50,13 @@ impl Given {
             ceilings: &self.ceilings,
         }
     }
+}
+
+/// The names of the nodes whose visits are not said.
+pub fn without_visits(known: &Known) -> String {
+    let nodes = known.nodes.iter().filter(|node| node.visits.is_none());
+    let nodes: Vec<String> = nodes.map(|node| told(&node.name)).collect();
+    listed(&nodes, "and")
 }
 
 /// That a cost or visits are missing.
@@ -55,10 +74,9 @@ fn missing(known: &Known, hit: Option<u16>, miss: Option<u16>) -> Trouble {
         needs.push(format!("the cost of {}", costs.join(" and of ")));
         mends.push("add a line 'cost hit 1 miss 10', or give --hit N and --miss N");
     }
-    let nodes = known.nodes.iter().filter(|node| node.visits.is_none());
-    let nodes: Vec<String> = nodes.map(|node| told(&node.name)).collect();
-    if !nodes.is_empty() {
-        needs.push(format!("the visits of {}", listed(&nodes, "and")));
+    let nodes = without_visits(known);
+    if !nodes.is_empty() && known.facts.is_empty() {
+        needs.push(format!("the visits of {nodes}"));
         mends.push("end each node's line with 'visits 10', or with 'visits 0..10' for none to ten");
     }
     Trouble::Unanswered {

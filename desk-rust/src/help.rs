@@ -8,7 +8,7 @@ hit once their line is loaded, and which cannot be told.
 
     ./desk new > mine.txt                       a chart in words to begin with
     ./desk report mine.txt                      each node with its block, set and class, and the map of sets
-    ./desk totals mine.txt                      two bounds on what the references cost, and each node's share of them
+    ./desk totals mine.txt                      two bounds on the cost, each node's share, and what facts are worth
     ./desk why mine.txt NODE                    why a node has its class
     ./desk chart mine.txt -o mine.chart         the chart in bytes, for the proved program and for C
     ./desk text mine.chart                      a chart of bytes in words
@@ -47,6 +47,11 @@ high total first. A kept touch adds a hit for each visit; what the first load of
 of its own, once for each block. Costs are those of the line 'cost', unless --hit or --miss give others. Each node needs its
 visits.
 
+Where the text has lines 'fact' or 'loop', two bounds for walks that keep these too, and go along the arrows. glpsol (Debian's
+glpk-utils) finds certificates for them, and the proved function has to accept each; then the facts that the high bound
+rests on, and how much higher it is without each. Nodes need no visits then.
+
+    ./desk totals charts/winch-facts.txt
     ./desk totals charts/winch-as-built.txt
     ./desk totals charts/winch-as-built.txt --miss 20
 ";

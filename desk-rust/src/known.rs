@@ -1,5 +1,6 @@
 //! A chart as the desk knows it, whether it came as text or as bytes. The proved reader has accepted it.
 
+use crate::fact::Saying;
 use crate::source::{Source, Span};
 use veilbuzz::{fields_of, Costs, Fields, Header, Refusal};
 
@@ -11,6 +12,8 @@ pub struct Known {
     /// In the chart's order.
     pub nodes: Vec<Node>,
     pub costs: Option<Costs>,
+    /// What lines `fact` and `loop` say, in the order of the text.
+    pub facts: Vec<Saying>,
     /// The text that it came from, with the places in it that a refusal may have to be told at.
     pub text: Option<Text>,
 }
@@ -56,6 +59,7 @@ impl Known {
             header,
             nodes: fields.into_iter().enumerate().map(node).collect(),
             costs: None,
+            facts: vec![],
             text: None,
         })
     }

@@ -16,6 +16,11 @@ pub enum Kind {
     Comma,
     Equals,
     Plus,
+    Minus,
+    /// `<=`
+    AtMost,
+    /// `>=`
+    AtLeast,
     /// A sign that stands nowhere.
     Other,
     /// The end of the line, or a comment.
@@ -92,6 +97,9 @@ impl<'a> Line<'a> {
             Some('=') => (Kind::Equals, 1),
             Some('+') => (Kind::Plus, 1),
             Some('-') if trimmed.starts_with("->") => (Kind::Arrow, 2),
+            Some('-') => (Kind::Minus, 1),
+            Some('<') if trimmed.starts_with("<=") => (Kind::AtMost, 2),
+            Some('>') if trimmed.starts_with(">=") => (Kind::AtLeast, 2),
             Some('.') if trimmed.starts_with("..") => (Kind::Dots, 2),
             Some('0'..='9') => (Kind::Number, length(trimmed, in_number)),
             Some(letter) if begins_name(letter) => (Kind::Word, length(trimmed, in_name)),

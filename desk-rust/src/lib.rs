@@ -1,10 +1,13 @@
 //! The desk: charts in words, answers in words.
 //!
-//! Ordinary Rust over the wrapper, and so over the proved functions: it never works out an age, a class, a total or a byte of a chart
-//! itself. A text becomes a chart by the proved writer, and is read back before it is used.
+//! Ordinary Rust over the wrapper, and so over the proved functions: it never works out an age, a class, a total, a bound or a byte of a
+//! chart itself. A text becomes a chart by the proved writer, and is read back before it is used.
 //!
 //! From a text to a chart: [`lexer`], [`parse`], [`draft`], [`resolve`], [`made`]; what is wrong with it: [`problem`], [`refused`]. What numbers
 //! there are is [`asked`] of the writer. [`known`] is a chart as the commands get it: [`report`], [`totals`], [`why`], [`texted`].
+//!
+//! From facts to bounds: [`fact`], [`flow`], [`lp`], [`solver`], [`fractions`], [`potentials`], and [`certify`], which asks the proved function;
+//! what a bound rests on, and what that is worth: [`rests`], [`weights`].
 
 pub mod again;
 pub mod ages;
@@ -15,12 +18,20 @@ pub mod arriving;
 pub mod asked;
 pub mod astray;
 pub mod before;
+pub mod bounded;
 pub mod cache;
+pub mod certify;
 pub mod changed;
 pub mod draft;
 pub mod expect;
 pub mod explained;
-pub mod facts;
+pub mod fact;
+pub mod fact_faults;
+pub mod facts_json;
+pub mod facts_words;
+pub mod findings;
+pub mod flow;
+pub mod fractions;
 pub mod given;
 pub mod help;
 pub mod input;
@@ -28,6 +39,7 @@ pub mod json;
 pub mod known;
 pub mod lexer;
 pub mod loads;
+pub mod lp;
 pub mod made;
 pub mod misgiven;
 pub mod near;
@@ -35,17 +47,22 @@ pub mod number;
 pub mod paint;
 pub mod parse;
 pub mod parse_cache;
+pub mod parse_fact;
 pub mod parse_node;
+pub mod potentials;
 pub mod problem;
 pub mod reference;
 pub mod refused;
 pub mod report;
 pub mod resolve;
+pub mod rests;
 pub mod run;
 pub mod sets;
 pub mod shape;
 pub mod shares;
 pub mod since;
+pub mod solution;
+pub mod solver;
 pub mod source;
 pub mod summary;
 pub mod table;
@@ -56,6 +73,8 @@ pub mod totals_table;
 pub mod totals_words;
 pub mod touches;
 pub mod trouble;
+pub mod weights;
+pub mod weights_table;
 pub mod why;
 pub mod why_arrows;
 pub mod why_json;

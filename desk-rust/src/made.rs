@@ -4,6 +4,7 @@ use crate::asked::STEP;
 use crate::draft::{Base, Draft};
 use crate::known::{Known, Node, Text, Visits};
 use crate::parse::parse;
+use crate::parse_fact::facts;
 use crate::problem::Problems;
 use crate::refused::told_at;
 use crate::resolve::resolve;
@@ -24,6 +25,7 @@ fn drawn(source: &Source) -> Result<Known, Problems> {
     }
     let end = source.end();
     let given = resolve(&draft, end, &mut problems);
+    let facts = facts(&draft, &mut problems);
     let (Some((heading, fields)), true) = (given, problems.is_empty()) else {
         return Err(problems);
     };
@@ -54,6 +56,7 @@ fn drawn(source: &Source) -> Result<Known, Problems> {
             hit: line.hit,
             miss: line.miss,
         }),
+        facts,
         text: Some(said(source, &draft)),
     })
 }

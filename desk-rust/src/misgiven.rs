@@ -1,6 +1,6 @@
 //! Costs or visits that the proved totals refuse, told at the line that says them.
 
-use crate::facts::refused_in;
+use crate::findings::refused_in;
 use crate::given::Given;
 use crate::known::{Known, Visits};
 use crate::number::told;

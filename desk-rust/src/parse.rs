@@ -2,6 +2,7 @@
 
 use crate::draft::{Cache, Draft, Name};
 use crate::expect::{a_name, an_address, named, the_end, unexpected};
+use crate::fact::FACTS;
 use crate::lexer::{Kind, Line, Token};
 use crate::near::nearest;
 use crate::number::told;
@@ -11,9 +12,9 @@ use crate::problem::Problem;
 use crate::source::Span;
 
 /// What a line that is no node's begins with.
-pub const LINES: [&str; 4] = ["cache", "cost", "entry", "at"];
+pub const LINES: [&str; 6] = ["cache", "cost", "entry", "at", "fact", "loop"];
 
-const LINE_MAY: &str = "'cache', 'cost', 'entry', 'at', or a node's name and ':'";
+const LINE_MAY: &str = "'cache', 'cost', 'entry', 'at', 'fact', 'loop', or a node's name and ':'";
 
 pub fn parse(text: &str) -> Draft<'_> {
     let mut draft = Draft::new();
@@ -54,6 +55,10 @@ fn line<'a>(draft: &mut Draft<'a>, mut rest: Line<'a>) -> Result<(), Problem> {
         (Kind::Word, "cost") => costs(draft, token.span, &mut rest),
         (Kind::Word, "entry") => entry(draft, token.span, &mut rest),
         (Kind::Word, "at") => address(draft, &mut rest),
+        (Kind::Word, "fact" | "loop") => {
+            fact(draft, token, rest);
+            Ok(())
+        }
         _ => {
             let meant = meant(token);
             match meant {
@@ -120,6 +125,15 @@ fn entry<'a>(draft: &mut Draft<'a>, span: Span, rest: &mut Line<'a>) -> Result<(
     draft.entry = Some(None);
     draft.entry = Some(Some(a_name(rest, "the name of the node that the program begins at")?));
     the_end(rest, "the end of the line: there is one entry")
+}
+
+/// Keeps the line of a fact: what it says is read once all nodes are known, since it may stand above them.
+fn fact<'a>(draft: &mut Draft<'a>, word: Token<'a>, rest: Line<'a>) {
+    draft.fact_count += 1;
+    // one too many is kept, to be told of; the others are only counted
+    if draft.facts.len() <= FACTS {
+        draft.facts.push((word, rest));
+    }
 }
 
 fn address<'a>(draft: &mut Draft<'a>, rest: &mut Line<'a>) -> Result<(), Problem> {

@@ -2,7 +2,7 @@
 
 use crate::answer::Answer;
 use crate::cache::{write_heading, Cache};
-use crate::facts::{targets, Facts};
+use crate::findings::{targets, Findings};
 use crate::json::{list, object, Value};
 use crate::known::Known;
 use crate::paint::{Colour, Painted};
@@ -16,55 +16,55 @@ use crate::words::block;
 use veilbuzz::Class;
 
 pub fn report(known: &Known) -> Result<Answer, Trouble> {
-    let facts = Facts::of(known)?;
-    let summary = Summary::of(&facts.analysis.classes);
-    let map = Map::of(&facts);
+    let findings = Findings::of(known)?;
+    let summary = Summary::of(&findings.analysis.classes);
+    let map = Map::of(&findings);
     let mut words = Painted::default();
     write_heading(known, &mut words);
     words.line("");
-    nodes(&facts, &mut words);
+    nodes(&findings, &mut words);
     words.line("");
     summary.write(&mut words);
-    let ends = ends(&facts);
+    let ends = ends(&findings);
     words.line(match ends.as_slice() {
         [] => "the program has no end: each node leads on".into(),
-        ends => format!("the program ends at {}", facts.names(ends, "or")),
+        ends => format!("the program ends at {}", findings.names(ends, "or")),
     });
     words.line("");
     map.write(&mut words);
     let json = object([
         ("file", known.file.as_str().into()),
         ("cache", Cache::of(&known.header).json()),
-        ("passes", facts.analysis.passes.into()),
-        ("blocks", facts.analysis.blocks.len().into()),
-        ("entry", facts.brief_json(known.header.entry)),
+        ("passes", findings.analysis.passes.into()),
+        ("blocks", findings.analysis.blocks.len().into()),
+        ("entry", findings.brief_json(known.header.entry)),
         (
             "nodes",
-            list((0..known.nodes.len()).map(|node| node_json(&facts, node))),
+            list((0..known.nodes.len()).map(|node| node_json(&findings, node))),
         ),
         ("summary", summary.json()),
-        ("ends", facts.briefs_json(&ends)),
+        ("ends", findings.briefs_json(&ends)),
         ("sets", map.json()),
     ]);
     Ok(Answer::new(words, json))
 }
 
 /// The nodes that a walk comes to and that lead nowhere. A forgotten arrow shows here.
-fn ends(facts: &Facts) -> Vec<usize> {
-    let nodes = 0..facts.known.nodes.len();
-    let is_end = |node: &usize| facts.reached(*node) && facts.node(*node).fields.outs == 0;
+fn ends(findings: &Findings) -> Vec<usize> {
+    let nodes = 0..findings.known.nodes.len();
+    let is_end = |node: &usize| findings.reached(*node) && findings.node(*node).fields.outs == 0;
     nodes.filter(is_end).collect()
 }
 
-fn nodes(facts: &Facts, out: &mut Painted) {
+fn nodes(findings: &Findings, out: &mut Painted) {
     let columns = ["node", "does", "goes to", "block", "set", "class"].map(|heading| (heading, Side::Left));
     let mut table = Table::new(columns);
-    for (number, node) in facts.known.nodes.iter().enumerate() {
-        let mark = if facts.is_entry(number) { " (entry)" } else { "" };
-        let to: Vec<&str> = targets(&node.fields).map(|target| facts.name(target)).collect();
+    for (number, node) in findings.known.nodes.iter().enumerate() {
+        let mark = if findings.is_entry(number) { " (entry)" } else { "" };
+        let to: Vec<&str> = targets(&node.fields).map(|target| findings.name(target)).collect();
         let to = if to.is_empty() { "(end)".into() } else { to.join(", ") };
-        let [class, second] = facts.analysis.classes[number];
-        let mut touches = facts.touches[number].iter();
+        let [class, second] = findings.analysis.classes[number];
+        let mut touches = findings.touches[number].iter();
         let [block, set] = placed(touches.next());
         table.row([
             format!("{}{mark}", node.name).into(),
@@ -94,7 +94,7 @@ fn coloured(class: Class) -> Cell {
     Cell::coloured(class.to_string(), Colour::of(class))
 }
 
-fn node_json(facts: &Facts, node: usize) -> Value {
+fn node_json(findings: &Findings, node: usize) -> Value {
     let touch = |(touch, class): (&Touch, &Class)| {
         object([
             ("block", u64::from(touch.block).into()),
@@ -102,8 +102,8 @@ fn node_json(facts: &Facts, node: usize) -> Value {
             ("class", class.to_string().into()),
         ])
     };
-    let touches = facts.touches[node].iter().zip(&facts.analysis.classes[node]);
-    let mut fields = facts.full_json(node);
+    let touches = findings.touches[node].iter().zip(&findings.analysis.classes[node]);
+    let mut fields = findings.full_json(node);
     fields.push(("touches", list(touches.map(touch))));
     Value::Object(fields)
 }

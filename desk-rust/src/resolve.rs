@@ -62,7 +62,8 @@ fn no_line(what: &str, mend: &str, end: Span) -> Problem {
     }
 }
 
-fn node_number(draft: &Draft, name: Name, problems: &mut Problems) -> Option<u64> {
+/// The number of the node of a name. Where there is none, that is put to the problems.
+pub fn node_number(draft: &Draft, name: Name, problems: &mut Problems) -> Option<u64> {
     let number = draft.numbers.get(name.value);
     if number.is_none() && draft.count > draft.nodes.len() {
         // it may be one of the nodes that were only counted; so many the writer refuses

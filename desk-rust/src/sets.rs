@@ -1,6 +1,6 @@
 //! The map of sets: which blocks compete for the ways of each.
 
-use crate::facts::Facts;
+use crate::findings::Findings;
 use crate::json::{list, object, Value};
 use crate::paint::{Colour, Painted};
 use crate::table::{Cell, Side, Table};
@@ -17,7 +17,7 @@ struct Users {
 type Blocks = BTreeMap<u32, Users>;
 
 pub struct Map<'a> {
-    facts: &'a Facts<'a>,
+    findings: &'a Findings<'a>,
     /// The sets that some block is in, and the blocks of each.
     sets: BTreeMap<u32, Blocks>,
 }
@@ -28,37 +28,40 @@ fn competing(blocks: &Blocks) -> usize {
 }
 
 impl<'a> Map<'a> {
-    pub fn of(facts: &'a Facts) -> Map<'a> {
+    pub fn of(findings: &'a Findings) -> Map<'a> {
         let mut sets: BTreeMap<u32, Blocks> = BTreeMap::new();
-        for (node, touches) in facts.touches.iter().enumerate() {
+        for (node, touches) in findings.touches.iter().enumerate() {
             for touch in touches {
                 let users = sets.entry(touch.set).or_default().entry(touch.block).or_default();
-                match facts.reached(node) {
+                match findings.reached(node) {
                     true => users.reached.push(node),
                     false => users.unreached.push(node),
                 }
             }
         }
-        Map { facts, sets }
+        Map { findings, sets }
     }
 
     fn over_full(&self, blocks: &Blocks) -> bool {
-        competing(blocks) > self.facts.known.header.ways
+        competing(blocks) > self.findings.known.header.ways
     }
 
     /// How many sets no block is in.
     fn unused(&self) -> usize {
-        (1 << self.facts.known.header.sets) - self.sets.len()
+        (1 << self.findings.known.header.sets) - self.sets.len()
     }
 
     /// Who touches a block, in short.
     fn touched_by(&self, users: &Users) -> Cell {
         match users.reached.as_slice() {
             [] => Cell::coloured(
-                format!("not counted, unreached: {}", self.facts.names(&users.unreached, "and")),
+                format!(
+                    "not counted, unreached: {}",
+                    self.findings.names(&users.unreached, "and")
+                ),
                 Some(Colour::Dim),
             ),
-            reached => self.facts.names(reached, "and").into(),
+            reached => self.findings.names(reached, "and").into(),
         }
     }
 
@@ -66,7 +69,7 @@ impl<'a> Map<'a> {
         if self.sets.is_empty() {
             return out.line("no node touches a block: all sets stay as they are");
         }
-        let ways = counted(self.facts.known.header.ways, "way");
+        let ways = counted(self.findings.known.header.ways, "way");
         let columns = ["set", "competing", "", "block", "touched by"].map(|heading| (heading, Side::Left));
         let mut table = Table::new(columns);
         for (set, blocks) in &self.sets {
@@ -102,15 +105,15 @@ impl<'a> Map<'a> {
         let block = |(block, users): (&u32, &Users)| {
             object([
                 ("block", u64::from(*block).into()),
-                ("nodes", self.facts.briefs_json(&users.reached)),
-                ("unreached_nodes", self.facts.briefs_json(&users.unreached)),
+                ("nodes", self.findings.briefs_json(&users.reached)),
+                ("unreached_nodes", self.findings.briefs_json(&users.unreached)),
             ])
         };
         let set = |(set, blocks): (&u32, &Blocks)| {
             object([
                 ("set", u64::from(*set).into()),
                 ("competing", competing(blocks).into()),
-                ("ways", self.facts.known.header.ways.into()),
+                ("ways", self.findings.known.header.ways.into()),
                 ("over_full", self.over_full(blocks).into()),
                 ("blocks", list(blocks.iter().map(block))),
             ])

@@ -1,6 +1,6 @@
 //! What each node adds to the two totals.
 
-use crate::facts::Facts;
+use crate::findings::Findings;
 use crate::given::Given;
 use crate::loads::{difference, kept, Load};
 use std::collections::HashMap;
@@ -8,16 +8,16 @@ use veilbuzz::{total, Bounds, Refusal, Totals};
 
 /// Of each node in the chart's order: the totals where no walk comes to any other node, less the first loads that are in them, since these are
 /// shares of their own. What is left is the same for nodes with the same classes and visits, and is asked for once.
-pub fn shares(facts: &Facts, given: &Given) -> Result<Vec<Totals>, Refusal> {
+pub fn shares(findings: &Findings, given: &Given) -> Result<Vec<Totals>, Refusal> {
     let Bounds { floors, ceilings } = given.bounds();
     let mut asked = HashMap::new();
     let mut shares = vec![];
     for node in 0..floors.len() {
-        let classes = facts.analysis.classes[node].map(|class| class as u8);
+        let classes = findings.analysis.classes[node].map(|class| class as u8);
         let alike = (classes, floors[node], ceilings[node]);
         let share = match asked.get(&alike) {
             Some(share) => *share,
-            None => share(facts, given, node)?,
+            None => share(findings, given, node)?,
         };
         asked.insert(alike, share);
         shares.push(share);
@@ -25,7 +25,7 @@ pub fn shares(facts: &Facts, given: &Given) -> Result<Vec<Totals>, Refusal> {
     Ok(shares)
 }
 
-fn share(facts: &Facts, given: &Given, node: usize) -> Result<Totals, Refusal> {
+fn share(findings: &Findings, given: &Given, node: usize) -> Result<Totals, Refusal> {
     let Bounds { floors, ceilings } = given.bounds();
     let alone = |visits: &[u16]| {
         let mut alone = vec![0; visits.len()];
@@ -36,8 +36,8 @@ fn share(facts: &Facts, given: &Given, node: usize) -> Result<Totals, Refusal> {
         floors: &alone(floors),
         ceilings: &alone(ceilings),
     };
-    let Totals { low, high } = total(&facts.known.chart, facts.analysis.table(), given.costs, bounds)?;
-    let loads = difference(given) * kept(facts, given, node).count() as u64;
+    let Totals { low, high } = total(&findings.known.chart, findings.analysis.table(), given.costs, bounds)?;
+    let loads = difference(given) * kept(findings, given, node).count() as u64;
     Ok(Totals {
         low,
         high: high.saturating_sub(loads),

@@ -1,7 +1,7 @@
 //! What walks have touched since a block was touched last: a search along the arrows, backwards from a touch.
 
 use crate::before::Before;
-use crate::facts::Facts;
+use crate::findings::Findings;
 use crate::touches::Touch;
 use std::collections::{BTreeMap, BTreeSet};
 use std::mem::replace;
@@ -22,20 +22,20 @@ pub struct Since {
 }
 
 /// Of one of the touches of a node that a walk comes to.
-pub fn since(facts: &Facts, node: usize, place: usize) -> Since {
-    let touch = facts.touches[node][place];
-    let before = Before::of(facts, touch.block);
+pub fn since(findings: &Findings, node: usize, place: usize) -> Since {
+    let touch = findings.touches[node][place];
+    let before = Before::of(findings, touch.block);
     let mut since = Since {
         from_start: before.without[node],
         ..Since::default()
     };
-    since.meets(touch, &before, node, &facts.touches[node][..place]);
-    let mut seen = vec![false; facts.known.nodes.len()];
+    since.meets(touch, &before, node, &findings.touches[node][..place]);
+    let mut seen = vec![false; findings.known.nodes.len()];
     let mut waiting = vec![node];
     while let Some(node) = waiting.pop() {
-        for from in facts.sources(node).filter(|from| facts.reached(*from)) {
+        for from in findings.sources(node).filter(|from| findings.reached(*from)) {
             let new = !replace(&mut seen[from], true);
-            if new && !since.meets(touch, &before, from, &facts.touches[from]) {
+            if new && !since.meets(touch, &before, from, &findings.touches[from]) {
                 waiting.push(from);
             }
         }

@@ -1,7 +1,7 @@
 //! From a chart back to words.
 
 use crate::cache::Cache;
-use crate::facts::targets;
+use crate::findings::targets;
 use crate::known::{Known, Node};
 use crate::reference::{reference, Reference};
 use crate::words::address;

@@ -1,9 +1,11 @@
-//! `./desk totals`: the low and the high total, and what each node and each first load adds to them.
+//! `./desk totals`: the low and the high total, and what each node and each first load adds to them; and what facts make of them.
 
 use crate::again::never_again;
 use crate::answer::Answer;
-use crate::facts::Facts;
-use crate::given::Given;
+use crate::bounded::{bounded, said, Bounded};
+use crate::facts_words::sentences;
+use crate::findings::Findings;
+use crate::given::{without_visits, Given};
 use crate::known::Known;
 use crate::loads::{loads, Load};
 use crate::misgiven::misgiven;
@@ -15,16 +17,24 @@ use std::cmp::Reverse;
 use veilbuzz::{total, Costs};
 
 pub struct Totals<'a> {
-    pub facts: &'a Facts<'a>,
+    pub findings: &'a Findings<'a>,
     pub costs: Costs,
+    /// Nothing where the visits of a node are not said, which facts make up for.
+    pub plain: Option<Plain>,
+    /// The nodes whose visits no walk can make.
+    pub never_again: Vec<usize>,
+    /// Nothing where the text has no facts.
+    pub bounded: Option<Bounded<'a>>,
+}
+
+/// The totals of floors and ceilings alone.
+pub struct Plain {
     pub totals: veilbuzz::Totals,
     pub sum: veilbuzz::Totals,
     /// The largest share of the high total first.
     pub shares: Vec<Share>,
     /// In the order of the blocks.
     pub loads: Vec<Load>,
-    /// The nodes whose visits no walk can make.
-    pub never_again: Vec<usize>,
 }
 
 /// What a node adds.
@@ -38,11 +48,29 @@ pub struct Share {
 /// Costs that are given at the call go before those of the text.
 pub fn totals(known: &Known, hit: Option<u16>, miss: Option<u16>) -> Result<Answer, Trouble> {
     let given = Given::of(known, hit, miss)?;
-    let facts = Facts::of(known)?;
-    let refused = |refusal| misgiven(known, &given, refusal);
-    let totals = total(&known.chart, facts.analysis.table(), given.costs, given.bounds()).map_err(refused)?;
-    let each = shares(&facts, &given).map_err(refused)?;
-    let loads = loads(&facts, &given);
+    let findings = Findings::of(known)?;
+    // where visits are not said whole, those that are can still be refused
+    let plain = plain(&findings, &given)?;
+    let said = said(&findings);
+    let totals = Totals {
+        findings: &findings,
+        costs: given.costs,
+        plain: Some(plain).filter(|_| given.whole),
+        never_again: never_again(&findings),
+        bounded: said.as_ref().map(|said| bounded(&findings, given.costs, said)),
+    };
+    match &totals.bounded {
+        Some(bounded) if totals.plain.is_none() && bounded.says_nothing() => Err(unbounded(known, bounded)),
+        _ => Ok(Answer::new(words(&totals), json(&totals))),
+    }
+}
+
+fn plain(findings: &Findings, given: &Given) -> Result<Plain, Trouble> {
+    let known = findings.known;
+    let refused = |refusal| misgiven(known, given, refusal);
+    let totals = total(&known.chart, findings.analysis.table(), given.costs, given.bounds()).map_err(refused)?;
+    let each = shares(findings, given).map_err(refused)?;
+    let loads = loads(findings, given);
     let sum = sum(&each, &loads);
     if sum != totals {
         return Err(apart(known, totals, sum));
@@ -54,16 +82,24 @@ pub fn totals(known: &Known, hit: Option<u16>, miss: Option<u16>) -> Result<Answ
     };
     let mut shares: Vec<Share> = each.into_iter().enumerate().map(share).collect();
     shares.sort_by_key(|share| (Reverse(share.adds.high), share.node));
-    let totals = Totals {
-        facts: &facts,
-        costs: given.costs,
+    Ok(Plain {
         totals,
         sum,
         shares,
         loads,
-        never_again: never_again(&facts),
-    };
-    Ok(Answer::new(words(&totals), json(&totals)))
+    })
+}
+
+/// That neither the facts nor the visits give a bound.
+fn unbounded(known: &Known, bounded: &Bounded) -> Trouble {
+    Trouble::Unanswered {
+        what: format!(
+            "{}: without the facts totals need the visits of {}",
+            known.file,
+            without_visits(known)
+        ),
+        mend: sentences(bounded).join(" "),
+    }
 }
 
 /// That the shares do not come to the totals, which is no fault of a chart.

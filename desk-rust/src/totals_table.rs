@@ -1,11 +1,12 @@
 //! The table of what each node and each first load adds to the totals.
 
+use crate::findings::Findings;
 use crate::known::Visits;
 use crate::loads::Load;
 use crate::paint::Colour;
 use crate::shares::thousandths;
 use crate::table::{Cell, Side, Table};
-use crate::totals::{Share, Totals};
+use crate::totals::{Plain, Share};
 use crate::words::{block, counted};
 use std::cmp::Reverse;
 use veilbuzz::{Class, TOUCHES};
@@ -13,7 +14,7 @@ use veilbuzz::{Class, TOUCHES};
 type Row = [Cell; 6];
 
 /// The largest share of the high total first, and of equal ones those of nodes.
-pub fn shares(totals: &Totals) -> Table<6> {
+pub fn shares(findings: &Findings, plain: &Plain) -> Table<6> {
     let mut table = Table::new([
         ("node", Side::Left),
         ("class", Side::Left),
@@ -22,10 +23,10 @@ pub fn shares(totals: &Totals) -> Table<6> {
         ("high", Side::Right),
         ("of high", Side::Right),
     ]);
-    let (none, some): (Vec<&Share>, Vec<&Share>) = totals.shares.iter().partition(|share| adds_nothing(share));
-    let nodes = some.into_iter().map(|share| (share.adds.high, node(totals, share)));
-    let loads = totals.loads.iter().filter(|load| load.adds > 0);
-    let loads = loads.map(|load| (load.adds, first_load(totals, load)));
+    let (none, some): (Vec<&Share>, Vec<&Share>) = plain.shares.iter().partition(|share| adds_nothing(share));
+    let nodes = some.into_iter().map(|share| (share.adds.high, node(findings, share)));
+    let loads = plain.loads.iter().filter(|load| load.adds > 0);
+    let loads = loads.map(|load| (load.adds, first_load(plain, load)));
     let mut rows: Vec<(u64, Row)> = nodes.chain(loads).collect();
     rows.sort_by_key(|(high, _)| Reverse(*high));
     for (_, row) in rows {
@@ -35,7 +36,7 @@ pub fn shares(totals: &Totals) -> Table<6> {
         let from = format!("nothing from {}", counted(none.len(), "node"));
         table.row([from.into(), blank(), blank(), "0".into(), "0".into(), blank()]);
     }
-    let [low, high] = [totals.sum.low, totals.sum.high].map(|sum| sum.to_string().into());
+    let [low, high] = [plain.sum.low, plain.sum.high].map(|sum| sum.to_string().into());
     let sum = Cell::coloured("sum of shares", Some(Colour::Bold));
     table.row([sum, blank(), blank(), low, high, blank()]);
     table
@@ -45,11 +46,11 @@ fn blank() -> Cell {
     Cell::from("")
 }
 
-fn node(totals: &Totals, share: &Share) -> Row {
-    let node = totals.facts.node(share.node);
+fn node(findings: &Findings, share: &Share) -> Row {
+    let node = findings.node(share.node);
     [
         node.name.as_str().into(),
-        classes(totals.facts.analysis.classes[share.node]),
+        classes(findings.analysis.classes[share.node]),
         node.visits.map(visits).unwrap_or_default().into(),
         share.adds.low.to_string().into(),
         share.adds.high.to_string().into(),
@@ -57,14 +58,14 @@ fn node(totals: &Totals, share: &Share) -> Row {
     ]
 }
 
-fn first_load(totals: &Totals, load: &Load) -> Row {
+fn first_load(plain: &Plain, load: &Load) -> Row {
     [
         format!("block {}, first load", block(load.of.block)).into(),
         blank(),
         blank(),
         "0".into(),
         load.adds.to_string().into(),
-        part(thousandths(load.adds, totals.totals.high)),
+        part(thousandths(load.adds, plain.totals.high)),
     ]
 }
 

@@ -27,7 +27,7 @@ pub const NOT_ASKED: u8 = 2;
 
 /// Whether the place of a refusal is a node (rule 11.0).
 fn at_a_node(refusal: &Refusal) -> bool {
-    matches!(refusal.number, 9 | 10 | 16 | 17)
+    matches!(refusal.number, 9 | 10 | 16 | 17 | 25)
 }
 
 impl Trouble {

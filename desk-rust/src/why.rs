@@ -3,7 +3,7 @@
 use crate::ages::Ages;
 use crate::answer::Answer;
 use crate::arriving::{arrivals, between, meeting, Arrival};
-use crate::facts::{refused_in, Facts};
+use crate::findings::{refused_in, Findings};
 use crate::known::Known;
 use crate::since::{since, Since};
 use crate::touches::Touch;
@@ -14,7 +14,7 @@ use veilbuzz::{Class, Refusal};
 
 /// All that is told of a node.
 pub struct Why<'a> {
-    pub facts: &'a Facts<'a>,
+    pub findings: &'a Findings<'a>,
     pub node: usize,
     /// Its touches, where a walk comes.
     pub touches: Vec<Reasons>,
@@ -39,49 +39,49 @@ pub struct Reasons {
 
 /// Of one of the chart's nodes, by its number.
 pub fn why(known: &Known, node: usize) -> Result<Answer, Trouble> {
-    let facts = Facts::of(known)?;
-    let why = Why::of(&facts, node).map_err(|refusal| refused_in(known, refusal))?;
+    let findings = Findings::of(known)?;
+    let why = Why::of(&findings, node).map_err(|refusal| refused_in(known, refusal))?;
     Ok(Answer::new(words(&why), json(&why)))
 }
 
 impl<'a> Why<'a> {
-    fn of(facts: &'a Facts<'a>, node: usize) -> Result<Why<'a>, Refusal> {
-        let touches = match facts.reached(node) {
-            true => facts.touches[node].len(),
+    fn of(findings: &'a Findings<'a>, node: usize) -> Result<Why<'a>, Refusal> {
+        let touches = match findings.reached(node) {
+            true => findings.touches[node].len(),
             false => 0,
         };
-        let touches: Result<Vec<_>, Refusal> = (0..touches).map(|place| Reasons::of(facts, node, place)).collect();
-        let meeting = meeting(facts, node);
+        let touches: Result<Vec<_>, Refusal> = (0..touches).map(|place| Reasons::of(findings, node, place)).collect();
+        let meeting = meeting(findings, node);
         Ok(Why {
-            facts,
+            findings,
             node,
             touches: touches?,
             meeting,
-            arrivals: arrivals(facts, node, meeting)?,
+            arrivals: arrivals(findings, node, meeting)?,
         })
     }
 
     /// The nodes that no walk comes to, and that have an arrow to the node.
     pub fn unreached_sources(&self) -> Vec<usize> {
-        let sources = self.facts.sources(self.node);
-        sources.filter(|from| !self.facts.reached(*from)).collect()
+        let sources = self.findings.sources(self.node);
+        sources.filter(|from| !self.findings.reached(*from)).collect()
     }
 }
 
 impl Reasons {
-    fn of(facts: &Facts, node: usize, place: usize) -> Result<Reasons, Refusal> {
-        let touch = facts.touches[node][place];
-        let arrival = Ages::of(&facts.analysis, node, touch.block);
+    fn of(findings: &Findings, node: usize, place: usize) -> Result<Reasons, Refusal> {
+        let touch = findings.touches[node][place];
+        let arrival = Ages::of(&findings.analysis, node, touch.block);
         Ok(Reasons {
             place,
             touch,
-            class: facts.analysis.classes[node][place],
+            class: findings.analysis.classes[node][place],
             arrival,
             before: match place {
                 0 => Some(arrival),
-                _ => between(facts, node, touch.block)?,
+                _ => between(findings, node, touch.block)?,
             },
-            since: since(facts, node, place),
+            since: since(findings, node, place),
         })
     }
 }

@@ -20,7 +20,7 @@ pub fn arrived(why: &Why, reasons: &Reasons, out: &mut Painted) {
         0 => "It comes so".into(),
         _ => format!(
             "It comes to {} with must age {must} and may age {may},",
-            why.facts.name(why.node)
+            why.findings.name(why.node)
         ),
     };
     let comes = match why.meeting == why.node {
@@ -28,7 +28,7 @@ pub fn arrived(why: &Why, reasons: &Reasons, out: &mut Painted) {
         false => format!(
             "{} through {}, and there",
             comes.trim_end_matches(','),
-            why.facts.name(why.meeting)
+            why.findings.name(why.meeting)
         ),
     };
     let Some(arrivals) = &why.arrivals else {
@@ -41,9 +41,9 @@ pub fn arrived(why: &Why, reasons: &Reasons, out: &mut Painted) {
         [Arrival {
             origin: Origin::Node(from),
             ..
-        }] => out.line(format!("{comes} by one arrow, from {}.", why.facts.name(*from))),
+        }] => out.line(format!("{comes} by one arrow, from {}.", why.findings.name(*from))),
         _ => {
-            let start = if why.facts.is_entry(why.meeting) {
+            let start = if why.findings.is_entry(why.meeting) {
                 " from the start and"
             } else {
                 ""
@@ -56,7 +56,7 @@ pub fn arrived(why: &Why, reasons: &Reasons, out: &mut Painted) {
 
 /// What comes from each origin, and which of the two ages on arrival that is.
 fn origins(why: &Why, reasons: &Reasons, arrivals: &[Arrival]) -> Table<4> {
-    let ways = why.facts.known.header.ways;
+    let ways = why.findings.known.header.ways;
     let mut table = Table::new([
         ("from", Side::Left),
         ("must", Side::Right),
@@ -66,7 +66,7 @@ fn origins(why: &Why, reasons: &Reasons, arrivals: &[Arrival]) -> Table<4> {
     for arrival in arrivals {
         let from = match arrival.origin {
             Origin::Start => "(the start)",
-            Origin::Node(from) => why.facts.name(from),
+            Origin::Node(from) => why.findings.name(from),
         };
         let ages = arrival.ages[reasons.place];
         let gives = match (ages.must == reasons.arrival.must, ages.may == reasons.arrival.may) {

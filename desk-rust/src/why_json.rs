@@ -9,14 +9,17 @@ use crate::why::{Reasons, Why};
 use std::collections::BTreeSet;
 
 pub fn json(why: &Why) -> Value {
-    let known = why.facts.known;
+    let known = why.findings.known;
     let mut fields = vec![
         ("file", known.file.as_str().into()),
         ("cache", Cache::of(&known.header).json()),
     ];
-    fields.extend(why.facts.full_json(why.node));
-    fields.push(("arrows_from_unreached", why.facts.briefs_json(&why.unreached_sources())));
-    let through = (why.meeting != why.node).then(|| why.facts.brief_json(why.meeting));
+    fields.extend(why.findings.full_json(why.node));
+    fields.push((
+        "arrows_from_unreached",
+        why.findings.briefs_json(&why.unreached_sources()),
+    ));
+    let through = (why.meeting != why.node).then(|| why.findings.brief_json(why.meeting));
     fields.push(("through", through.into()));
     fields.push(("touches", list(why.touches.iter().map(|touch| touch_json(why, touch)))));
     Value::Object(fields)
@@ -27,13 +30,13 @@ fn touch_json(why: &Why, reasons: &Reasons) -> Value {
     let other = |(block, nodes): (&u32, &BTreeSet<usize>)| {
         object([
             ("block", u64::from(*block).into()),
-            ("nodes", why.facts.briefs_json(nodes)),
+            ("nodes", why.findings.briefs_json(nodes)),
         ])
     };
     object([
         ("block", u64::from(touch.block).into()),
         ("set", u64::from(touch.set).into()),
-        ("ways", why.facts.known.header.ways.into()),
+        ("ways", why.findings.known.header.ways.into()),
         ("class", reasons.class.to_string().into()),
         ("must", reasons.before.map(|ages| u64::from(ages.must)).into()),
         ("may", reasons.before.map(|ages| u64::from(ages.may)).into()),
@@ -42,7 +45,7 @@ fn touch_json(why: &Why, reasons: &Reasons) -> Value {
             "arrows",
             why.arrivals.as_ref().map(|all| arrows(why, all, reasons.place)).into(),
         ),
-        ("last_touches", why.facts.briefs_json(&since.last)),
+        ("last_touches", why.findings.briefs_json(&since.last)),
         ("others", list(since.others.iter().map(other))),
         ("from_start", since.from_start.into()),
         ("others_from_start", list(since.others_from_start.iter().map(other))),
@@ -58,7 +61,7 @@ fn arrows(why: &Why, arrivals: &[Arrival], place: usize) -> Value {
     let arrow = |arrival: &Arrival| {
         let from = match arrival.origin {
             Origin::Start => Value::Null,
-            Origin::Node(node) => why.facts.brief_json(node),
+            Origin::Node(node) => why.findings.brief_json(node),
         };
         let Ages { must, may } = arrival.ages[place];
         object([

@@ -14,16 +14,16 @@ use veilbuzz::Class;
 
 pub fn words(why: &Why) -> Painted {
     let mut out = Painted::default();
-    write_heading(why.facts.known, &mut out);
+    write_heading(why.findings.known, &mut out);
     out.line("");
-    match reference(why.facts.node(why.node)) {
+    match reference(why.findings.node(why.node)) {
         Some(reference) => out.line(referring(why, &reference)),
         None => out.line(format!(
             "{} is a bare step: it touches nothing.",
-            why.facts.name(why.node)
+            why.findings.name(why.node)
         )),
     }
-    match why.facts.analysis.classes[why.node][0] {
+    match why.findings.analysis.classes[why.node][0] {
         Class::Unreached => unreached(why, &mut out),
         Class::None => classed(
             Class::None,
@@ -38,9 +38,9 @@ pub fn words(why: &Why) -> Painted {
 /// What a node reads or writes, and where in the cache that is.
 fn referring(why: &Why, reference: &Reference) -> String {
     let place = |touch: &Touch| format!("block {} in set {}", block(touch.block), touch.set);
-    let places: Vec<String> = why.facts.touches[why.node].iter().map(place).collect();
-    let (name, verb, what) = (why.facts.name(why.node), reference.verb, reference.what());
-    let ways = counted(why.facts.known.header.ways, "way");
+    let places: Vec<String> = why.findings.touches[why.node].iter().map(place).collect();
+    let (name, verb, what) = (why.findings.name(why.node), reference.verb, reference.what());
+    let ways = counted(why.findings.known.header.ways, "way");
     match places.as_slice() {
         [first, second] => {
             format!("{name} {verb}s {what}: {first}, and over the end of the line {second}. A set has {ways}.")
@@ -58,22 +58,22 @@ fn classed(class: Class, sentence: &str, out: &mut Painted) {
 
 fn unreached(why: &Why, out: &mut Painted) {
     classed(Class::Unreached, "no walk comes here.", out);
-    let name = why.facts.name(why.node);
+    let name = why.findings.name(why.node);
     out.line(match why.unreached_sources().as_slice() {
         [] => format!("No arrow leads to {name}."),
         [from] => format!(
             "One arrow leads to {name}, and it is from {}, which is unreached too.",
-            why.facts.name(*from)
+            why.findings.name(*from)
         ),
         from => {
-            let names = why.facts.names(from, "and");
+            let names = why.findings.names(from, "and");
             format!("The arrows that lead to {name} are from {names}, which are unreached too.")
         }
     });
 }
 
 fn explained(why: &Why, reasons: &Reasons, out: &mut Painted) {
-    let ways = why.facts.known.header.ways;
+    let ways = why.findings.known.header.ways;
     let Touch { block: number, .. } = reasons.touch;
     let when = match reasons.place {
         0 => "on arrival",
@@ -104,7 +104,7 @@ fn explained(why: &Why, reasons: &Reasons, out: &mut Painted) {
     out.line("");
     arrived(why, reasons, out);
     out.line("");
-    touched_since(why.facts, reasons.touch, &reasons.since, out);
+    touched_since(why.findings, reasons.touch, &reasons.since, out);
     stays(reasons, ways, out);
     if reasons.class == Class::Unsure && by_some_way(why, reasons) {
         out.line("");
@@ -114,7 +114,7 @@ fn explained(why: &Why, reasons: &Reasons, out: &mut Painted) {
 
 /// Whether the block is always there where a walk comes by one way.
 fn by_some_way(why: &Why, reasons: &Reasons) -> bool {
-    let ways = why.facts.known.header.ways;
+    let ways = why.findings.known.header.ways;
     let arrivals = why.arrivals.iter().flatten();
     arrivals
         .map(|arrival| arrival.ages[reasons.place])

@@ -13,9 +13,9 @@
 #include "veilbuzz.h"
 #include "watched.h"
 
-enum function { READ = 1, ANALYSE, CHECK, TOTAL, NODE, BLOCKS, WRITE, DEADLINE };
+enum function { READ = 1, ANALYSE, CHECK, TOTAL, NODE, BLOCKS, WRITE, DEADLINE, BOUND };
 enum access { READS, WRITES, IGNORES };
-enum { MOST_NUMBERS = 7, MOST_BUFFERS = 8, SHOWN = 10 };
+enum { MOST_NUMBERS = 7, MOST_BUFFERS = 9, SHOWN = 10 };
 
 struct buffer {
     int access;
@@ -26,8 +26,8 @@ struct buffer {
 };
 
 /* As many as a function's parameters have. */
-static const size_t number_counts[] = {0, 0, 1, 0, 2, 1, 0, 6, 7};
-static const size_t buffer_counts[] = {0, 3, 7, 5, 7, 3, 3, 8, 8};
+static const size_t number_counts[] = {0, 0, 1, 0, 2, 1, 0, 6, 7, 4};
+static const size_t buffer_counts[] = {0, 3, 7, 5, 7, 3, 3, 8, 8, 9};
 
 static unsigned long cases, differences;
 
@@ -91,8 +91,8 @@ static void differs(const char *what, size_t place, unsigned long long got, unsi
 
 /* Compares a buffer with what it has to hold, byte by byte, and gives it back. */
 static void compare(const struct buffer *buffer, size_t number) {
-    static const char *const names[] = {"byte of buffer 0,", "byte of buffer 1,", "byte of buffer 2,", "byte of buffer 3,",
-                                        "byte of buffer 4,", "byte of buffer 5,", "byte of buffer 6,", "byte of buffer 7,"};
+    static const char *const names[] = {"byte of buffer 0,", "byte of buffer 1,", "byte of buffer 2,", "byte of buffer 3,", "byte of buffer 4,",
+                                        "byte of buffer 5,", "byte of buffer 6,", "byte of buffer 7,", "byte of buffer 8,"};
     const size_t whole = buffer->length * buffer->size, used = buffer->used * buffer->size;
     const uint8_t *left = buffer->lent;
     size_t place;
@@ -138,6 +138,10 @@ static uint64_t call(int function, const uint64_t *n, const struct buffer *b) {
         return veilbuzz_deadline(b[0].lent, b[0].length, b[1].lent, b[1].length, b[2].lent, b[2].length, b[3].lent, b[3].length,
                                  (uint16_t)n[0], (uint16_t)n[1], b[4].lent, b[4].length, b[5].lent, b[5].length, of(n[2]), of(n[3]), n[4],
                                  of(n[5]), of(n[6]), b[6].lent, b[6].length, b[7].lent, b[7].length);
+    case BOUND:
+        return veilbuzz_bound(b[0].lent, b[0].length, b[1].lent, b[1].length, b[2].lent, b[2].length, b[3].lent, b[3].length,
+                              (uint16_t)n[0], (uint16_t)n[1], n[2], b[4].lent, b[4].length, b[5].lent, b[5].length, b[6].lent, b[6].length,
+                              b[7].lent, b[7].length, n[3], b[8].lent, b[8].length);
     default:
         return veilbuzz_write(n[0], n[1], n[2], n[3], n[4], n[5], b[0].lent, b[0].length, b[1].lent, b[1].length, b[2].lent, b[2].length,
                               b[3].lent, b[3].length, b[4].lent, b[4].length, b[5].lent, b[5].length, b[6].lent, b[6].length, b[7].lent,
@@ -165,7 +169,7 @@ static void make_call(int function) {
 int main(void) {
     uint8_t function;
     while (fread(&function, 1, 1, stdin) == 1) {
-        if (function < READ || function > DEADLINE)
+        if (function < READ || function > BOUND)
             stop("there is no such function");
         make_call(function);
         cases++;

@@ -14,6 +14,11 @@ static uint64_t header[VEILBUZZ_HEADER_LENGTH], fields[VEILBUZZ_FIELDS_LENGTH], 
 static double figures[VEILBUZZ_FIGURES_LENGTH];
 static uint64_t lists[VEILBUZZ_FIELDS_LENGTH][VEILBUZZ_MOST_NODES]; /* of each field, as veilbuzz_write takes them */
 static uint8_t written[VEILBUZZ_LONGEST_CHART];
+static struct {
+    uint64_t side;
+    int64_t coefficients[2 * 7], limits[2], multipliers[2], potentials[7];
+    uint64_t denominator;
+} given; /* as veilbuzz_bound takes it, of the seven nodes below */
 static int wrong;
 
 static void is(const char *what, uint64_t told, uint64_t expected) {
@@ -81,6 +86,36 @@ static uint64_t judge(const uint16_t *floors, const uint16_t *ceilings, uint64_t
     return answer[VEILBUZZ_DEADLINE_MET];
 }
 
+/* The bound on the seven nodes below that `given` shows, a hit for 1 and a miss for 10. */
+static uint64_t bound(size_t room) {
+    return veilbuzz_bound(chart, 64, must, 14, may, 14, marks, 7, 1, 10, given.side, given.coefficients, 14, given.limits, 2,
+                          given.multipliers, 2, given.potentials, 7, given.denominator, answer, room);
+}
+
+/* Two facts: of node 0, and of no node at all. A walk is left with 10 at node 4, with 1 more at node 5, and then with nothing more. */
+static void at_most(int64_t visits, int64_t denominator) {
+    static const int64_t potentials[] = {11, 0, 0, 0, 10, 11, 11};
+    size_t n;
+    memset(&given, 0, sizeof given);
+    given.side = VEILBUZZ_SIDE_HIGH;
+    given.coefficients[0] = 1;
+    given.limits[0] = visits;
+    given.multipliers[0] = denominator;
+    for (n = 0; n < 7; n++)
+        given.potentials[n] = potentials[n] * denominator;
+    given.denominator = (uint64_t)denominator;
+}
+
+/* The same of no fewer visits, where all that is counted is below 0. */
+static void at_least(int64_t visits) {
+    size_t n;
+    at_most(-visits, 1);
+    given.side = VEILBUZZ_SIDE_LOW;
+    given.coefficients[0] = -1;
+    for (n = 0; n < 7; n++)
+        given.potentials[n] = -given.potentials[n];
+}
+
 /* The class of a node's first touch, 0, or second, 1. */
 static uint8_t class_of(size_t n, size_t touch) {
     return classes[VEILBUZZ_MOST_TOUCHES * n + touch];
@@ -129,6 +164,17 @@ static void answers(void) {
     IS(answer[VEILBUZZ_DEADLINE_MET], 0);
     IS_JUST(figures[VEILBUZZ_FIGURES_LOW], 0.0);
     IS_JUST(figures[VEILBUZZ_FIGURES_HIGH], 0.0);
+    at_most(9, 1);
+    IS(bound(VEILBUZZ_LONGEST_ANSWER), 0);
+    IS(answer[VEILBUZZ_BOUND_BOUND], 29);
+    given.potentials[6] = 10;
+    IS(bound(VEILBUZZ_LONGEST_ANSWER), 25);
+    IS(answer[VEILBUZZ_ANSWER_NUMBER], 25);
+    IS(answer[VEILBUZZ_ANSWER_PLACE], 5);
+    IS(answer[VEILBUZZ_BOUND_BOUND], 0);
+    at_least(3);
+    IS(bound(VEILBUZZ_LONGEST_ANSWER), 0);
+    IS(answer[VEILBUZZ_BOUND_BOUND], 13); /* of a walk that may end anywhere: 10 at node 4, and 3 */
     chart[8 * (3 + 1) + 7] = 1; /* a size at node 3, a bare step */
     IS(read_chart(7), 9);
     IS(answer[VEILBUZZ_ANSWER_NUMBER], 9);
@@ -256,8 +302,9 @@ static void touches(void) {
 /* With one place fewer than its length 11 is returned, and no list has changed; with just so many a list has the number that is told last. */
 static void lengths(void) {
     static const uint16_t times[] = {1, 0, 0, 0, 1, 1, 1};
-    static const uint64_t each[] = {VEILBUZZ_READ_LENGTH,    VEILBUZZ_NODE_LENGTH,  VEILBUZZ_BLOCKS_LENGTH, VEILBUZZ_WRITE_LENGTH,
-                                    VEILBUZZ_ANALYSE_LENGTH, VEILBUZZ_CHECK_LENGTH, VEILBUZZ_TOTAL_LENGTH,  VEILBUZZ_DEADLINE_LENGTH};
+    static const uint64_t each[] = {VEILBUZZ_READ_LENGTH,  VEILBUZZ_NODE_LENGTH,     VEILBUZZ_BLOCKS_LENGTH,
+                                    VEILBUZZ_WRITE_LENGTH, VEILBUZZ_ANALYSE_LENGTH,  VEILBUZZ_CHECK_LENGTH,
+                                    VEILBUZZ_TOTAL_LENGTH, VEILBUZZ_DEADLINE_LENGTH, VEILBUZZ_BOUND_LENGTH};
     uint64_t longest = 0;
     size_t less, fewer, k;
     seven(VEILBUZZ_START_EMPTY);
@@ -318,6 +365,11 @@ static void lengths(void) {
         IS(veilbuzz_total(chart, 64, must, 14, may, 14, marks, 7, 1, 10, times, 7, times, 7, answer, VEILBUZZ_TOTAL_LENGTH - less), number);
         IS(answer[0], less ? UINT64_MAX : 0);
         IS(answer[VEILBUZZ_TOTAL_LENGTH - 1], less ? UINT64_MAX : 21);
+        memset(answer, 0xFF, sizeof answer);
+        at_most(9, 1);
+        IS(bound(VEILBUZZ_BOUND_LENGTH - less), number);
+        IS(answer[0], less ? UINT64_MAX : 0);
+        IS(answer[VEILBUZZ_BOUND_LENGTH - 1], less ? UINT64_MAX : 29);
     }
     for (k = 0; k < sizeof each / sizeof *each; k++)
         if (each[k] > longest)
@@ -346,6 +398,41 @@ static void limits(void) {
     IS(read_chart(VEILBUZZ_MOST_NODES + 1), 5);
 }
 
+/* Sets a number of `given`, and sees what comes of it. Node 1, to which no walk comes, can have any coefficient and any potential. */
+#define GIVEN(number, to, returned)                   \
+    do {                                              \
+        at_most(9, 1);                                \
+        given.number = (to);                          \
+        IS(bound(VEILBUZZ_LONGEST_ANSWER), returned); \
+    } while (0)
+
+/* The ends of each range, and what is one past them. */
+static void ranges(void) {
+    seven(VEILBUZZ_START_EMPTY);
+    analyse(7, VEILBUZZ_ENOUGH_PASSES);
+    GIVEN(coefficients[1], VEILBUZZ_MOST_COEFFICIENT, 0);
+    GIVEN(coefficients[1], -VEILBUZZ_MOST_COEFFICIENT, 0);
+    GIVEN(coefficients[1], VEILBUZZ_MOST_COEFFICIENT + 1, 24);
+    GIVEN(coefficients[1], -VEILBUZZ_MOST_COEFFICIENT - 1, 24);
+    GIVEN(limits[1], VEILBUZZ_MOST_LIMIT, 0);
+    GIVEN(limits[1], -VEILBUZZ_MOST_LIMIT, 0);
+    GIVEN(limits[1], VEILBUZZ_MOST_LIMIT + 1, 24);
+    GIVEN(limits[1], -VEILBUZZ_MOST_LIMIT - 1, 24);
+    GIVEN(multipliers[1], VEILBUZZ_MOST_MULTIPLIERS - 1, 0); /* the other multiplier is 1 */
+    GIVEN(multipliers[1], VEILBUZZ_MOST_MULTIPLIERS, 24);
+    GIVEN(multipliers[1], -1, 24);
+    GIVEN(potentials[1], VEILBUZZ_MOST_POTENTIAL, 0);
+    GIVEN(potentials[1], -VEILBUZZ_MOST_POTENTIAL, 0);
+    GIVEN(potentials[1], VEILBUZZ_MOST_POTENTIAL + 1, 24);
+    GIVEN(potentials[1], -VEILBUZZ_MOST_POTENTIAL - 1, 24);
+    GIVEN(denominator, 0, 24);
+    GIVEN(denominator, VEILBUZZ_MOST_DENOMINATOR + 1, 24);
+    GIVEN(side, 2, 24);
+    at_most(9, (int64_t)VEILBUZZ_MOST_DENOMINATOR);
+    IS(bound(VEILBUZZ_LONGEST_ANSWER), 0);
+    IS(answer[VEILBUZZ_BOUND_BOUND], 29);
+}
+
 /* The limits are the second program's, which are handed in. */
 static void same(char **numbers) {
     static const uint64_t named[] = {VEILBUZZ_MOST_NODES, VEILBUZZ_MOST_BLOCKS,  VEILBUZZ_MOST_WAYS,     VEILBUZZ_MOST_TOUCHES,
@@ -365,6 +452,7 @@ int main(int count, char **numbers) {
     touches();
     lengths();
     limits();
+    ranges();
     if (count != 9) {
         printf("constants: hand in the eight limits\n");
         return 2;

@@ -4,8 +4,8 @@
 //! each gives the answer that the rules (docs/RULES.md) define, writes only what is said here, and ends. The cover itself is ordinary Rust.
 //!
 //! [`Analysis::of`] is the short way to a chart's classes, [`chart_of`] to a chart and [`fields_of`] back from it, with buffers of their
-//! own. [`read`], [`node`], [`blocks`], [`write`], [`analyse`], [`check`], [`total`] and [`deadline`] are the eight functions with buffers
-//! that the caller lends. `examples/loop.rs`, `examples/make.rs` and `examples/deadline.rs` are whole programs.
+//! own. [`read`], [`node`], [`blocks`], [`write`], [`analyse`], [`check`], [`total`], [`deadline`] and [`bound`] are the nine functions with
+//! buffers that the caller lends. `examples/loop.rs`, `examples/make.rs`, `examples/deadline.rs` and `examples/bound.rs` are whole programs.
 //!
 //! The archive that is linked, libboundary.a, is looked for in the folder that VEILBUZZ_ARCHIVE names, or else in target/archive;
 //! `tests/archive` makes it and prints its folder.
@@ -17,6 +17,7 @@ mod analyse;
 mod analysis;
 mod answer;
 mod blocks;
+mod bound;
 mod check;
 mod class;
 mod deadline;
@@ -32,6 +33,7 @@ mod write;
 pub use analyse::{analyse, Buffers, Settled, Unsettled};
 pub use analysis::Analysis;
 pub use blocks::blocks;
+pub use bound::{bound, Certificate, Facts, Side};
 pub use check::{check, Table};
 pub use class::Class;
 pub use deadline::{deadline, ClockSheet, Deadline, Judged};

@@ -11,7 +11,7 @@
 
 /// In every answer: the refusal's number, 0 for none; also what the function returns.
 pub const NUMBER: usize = 0;
-/// In every answer: the node at fault for refusals 9, 10, 16 and 17, else 0.
+/// In every answer: the node at fault for refusals 9, 10, 16, 17 and 25, else 0.
 pub const PLACE: usize = 1;
 
 /// `veilbuzz_read`: B.
@@ -62,6 +62,15 @@ pub const DEADLINE_LENGTH: usize = 3;
 pub const DEADLINE_NONE: u64 = 0;
 pub const DEADLINE_LATEST: u64 = 1;
 pub const DEADLINE_WINDOW: u64 = 2;
+
+/// `veilbuzz_bound`: the bound of the side that was asked for.
+pub const BOUND_BOUND: usize = 2;
+/// How many numbers its answer has.
+pub const BOUND_LENGTH: usize = 3;
+
+/// The sides of a bound.
+pub const SIDE_HIGH: u64 = 0;
+pub const SIDE_LOW: u64 = 1;
 
 /// How many figures there are: the low one and the high one, in this order.
 pub const FIGURES_LENGTH: usize = 2;
@@ -198,6 +207,31 @@ extern "C" {
         latest: f64,
         figures: *mut f64,
         figures_length: usize,
+        answer: *mut u64,
+        answer_length: usize,
+    ) -> u64;
+
+    pub fn veilbuzz_bound(
+        chart: *const u8,
+        chart_length: usize,
+        must: *const u8,
+        must_length: usize,
+        may: *const u8,
+        may_length: usize,
+        marks: *const u8,
+        marks_length: usize,
+        hit: u16,
+        miss: u16,
+        side: u64,
+        coefficients: *const i64,
+        coefficients_length: usize,
+        limits: *const i64,
+        limits_length: usize,
+        multipliers: *const i64,
+        multipliers_length: usize,
+        potentials: *const i64,
+        potentials_length: usize,
+        denominator: u64,
         answer: *mut u64,
         answer_length: usize,
     ) -> u64;

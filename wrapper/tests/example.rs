@@ -48,3 +48,8 @@ fn the_deadline_prints_what_the_c_example_prints() {
     // the C example has the bytes of the two charts in itself
     assert_eq!(printed("deadline"), include_str!("../../examples/deadline.stdout"));
 }
+
+#[test]
+fn the_bound_prints_what_the_c_example_prints() {
+    assert_eq!(printed("bound"), include_str!("../../examples/bound.stdout"));
+}

@@ -387,3 +387,86 @@ fn deadline_tells_two_figures_and_does_nothing_without_room_for_them() {
         tells(&[1, 2, 3, 0], given, 18, [0.0; 2]);
     }
 }
+
+/// What a bound is asked with: a side, a fact's coefficients and limit, the potentials and the denominator.
+#[derive(Clone, Copy)]
+struct Shown {
+    side: u64,
+    coefficients: &'static [i64],
+    limit: i64,
+    potentials: &'static [i64],
+    denominator: u64,
+}
+
+/// All marked nodes are come to six times at most: with the multiplier 3 a visit is left with nothing.
+const AT_MOST: Shown = Shown {
+    side: raw::SIDE_HIGH,
+    coefficients: &[1, 1, 1, 0],
+    limit: 6,
+    potentials: &[0; NODES],
+    denominator: 1,
+};
+
+/// The first is come to three times at least: with the multiplier 3 a visit is left with nothing, or with less.
+const AT_LEAST: Shown = Shown {
+    side: raw::SIDE_LOW,
+    coefficients: &[-1, 0, 0, 0],
+    limit: -3,
+    potentials: &[0; NODES],
+    denominator: 1,
+};
+
+fn bound(shown: Shown, answer: *mut u64, length: usize) -> u64 {
+    let (chart, lent, limits, multipliers) = (chart(), Lent::settled(), [shown.limit], [3]);
+    unsafe {
+        raw::veilbuzz_bound(
+            chart.as_ptr(),
+            chart.len(),
+            lent.must.as_ptr(),
+            lent.must.len(),
+            lent.may.as_ptr(),
+            lent.may.len(),
+            lent.marks.as_ptr(),
+            lent.marks.len(),
+            3,
+            1000,
+            shown.side,
+            shown.coefficients.as_ptr(),
+            shown.coefficients.len(),
+            limits.as_ptr(),
+            limits.len(),
+            multipliers.as_ptr(),
+            multipliers.len(),
+            shown.potentials.as_ptr(),
+            shown.potentials.len(),
+            shown.denominator,
+            answer,
+            length,
+        )
+    }
+}
+
+#[test]
+fn bound_tells_the_bound_of_its_side() {
+    let tells = |shown, told| tells([0, 0, told], |answer, length| bound(shown, answer, length));
+    tells(AT_MOST, 3 * 6 + 2 * 997);
+    tells(AT_LEAST, 3 * 3);
+}
+
+#[test]
+fn bound_tells_each_refusal_and_where_a_certificate_does_not_hold() {
+    let tells = |shown, number, place| tells([number, place, 0], |answer, length| bound(shown, answer, length));
+    for shown in [AT_MOST, AT_LEAST] {
+        let coefficients = &[1, 1, 1];
+        tells(Shown { coefficients, ..shown }, 23, 0);
+        for side in [2, 3, 256, 1 << 32, (1 << 32) + 1, u64::MAX] {
+            tells(Shown { side, ..shown }, 24, 0);
+        }
+        for denominator in [0, (1 << 32) + 1] {
+            tells(Shown { denominator, ..shown }, 24, 0);
+        }
+        // the last marked node has less than the one before it
+        let potentials = &[0, 4, 0, 0];
+        tells(Shown { potentials, ..shown }, 25, 1);
+    }
+}

@@ -32,6 +32,22 @@ fn a_refusal_says_its_number_its_place_what_was_found_and_what_to_do() {
         "refused 18 at 0: the times are impossible: the period is 0, a time is below 0 or not finite, or a window ends before \
          it begins (give times in microseconds, of 8 MHz a period of 0.125; swap the window's limits, if they were swapped)"
     );
+    assert_eq!(
+        refusal(23, 0),
+        "refused 23 at 0: a list of the facts or of the certificate has the wrong length \
+         (of F limits: F * N coefficients, F multipliers and N potentials)"
+    );
+    assert_eq!(
+        refusal(24, 0),
+        "refused 24 at 0: a number of the facts or of the certificate is out of its range \
+         (a denominator of 1 to 2^32; coefficients and limits of -2^24 to 2^24; no multiplier below 0, and all together no more than \
+         2^36; potentials of -2^60 to 2^60)"
+    );
+    assert_eq!(
+        refusal(25, 5),
+        "refused 25 at 5: the certificate does not hold at that node: its own potential, if it is the entry, or that of a node that an \
+         arrow leads to from it is too small (make the certificate for this chart, these costs, these facts and this side)"
+    );
 }
 
 #[test]
@@ -45,6 +61,7 @@ fn the_limits_stand_in_the_words() {
 #[test]
 fn each_refusal_has_words_of_its_own() {
     let mut words: Vec<String> = (1..=18)
+        .chain(23..=25)
         .map(|number| {
             let text = refusal(number, 0);
             let (_, words) = text.split_once(": ").expect("there are words");
@@ -53,7 +70,14 @@ fn each_refusal_has_words_of_its_own() {
         .collect();
     words.sort();
     words.dedup();
-    assert_eq!(words.len(), 18);
+    assert_eq!(words.len(), 21);
+}
+
+#[test]
+fn a_number_that_nothing_is_refused_by_has_no_words() {
+    for number in [0, 19, 20, 21, 22, 26, usize::MAX] {
+        assert_eq!(refusal(number, 3), format!("refused {number} at 3"));
+    }
 }
 
 #[test]

@@ -4,7 +4,7 @@ use mathlib.Core.Bool.{true, false, _||_}
 use mathlib.Core.Path.{_≡_, refl}
 use mathlib.Core.List.{List, [], _∷_}
 use native.Mathlib.Omega.{arith}
-use borrow.Author.Tests.{lt-ltb, le-ltb, ne-eqb}
+use borrow.Author.Tests.{lt-ltb, lt-leb, le-ltb, ne-eqb}
 use lib.Ieee.{Float, lt, eq}
 use lib.ListN.{length}
 use Rattle.lists.specs.Lists.{written}
@@ -147,6 +147,11 @@ told-sounded =
       met-figures-told = λ low high lent. refl;
       not-met-figures-told = λ low high lent. refl;
       no-figures-told = λ refusal lent. refl;
+      high-given = refl;
+      low-given = refl;
+      denominator-given = λ denominator. (refl, refl);
+      no-side-given = λ side denominator h. rw (lt-leb side 1 h);
+      bound-told = λ said. refl;
       read-room = λ one other. both-room 6 one other;
       header-short = λ one other. first-short 6 one other;
       read-short = λ one other. second-short 6 one other;
@@ -166,6 +171,8 @@ told-sounded =
       judged-room = λ figures answer. both-room 2 figures answer;
       figures-short = λ figures answer. first-short 2 figures answer;
       judged-short = λ figures answer. second-short 2 figures answer;
+      bound-room = λ answer h. room answer 3 h;
+      bound-short = λ answer h. no-room answer 3 h;
       short-returns = λ number. refl;
       short-leaves = λ numbers lent. refl;
       room-returns = λ number. refl;

@@ -1,3 +1,4 @@
 pub mod Told
 pub mod Timed
+pub mod Certifying
 pub mod Sounded

@@ -1,6 +1,7 @@
 -- Soundings of what callers in other languages are told: each answer's numbers in their order; a header whose numbers are all different, so that
 -- no two can change places; lists with and without room for them, where one place fewer than an answer has is too few, and just as many are
--- enough; and what is left of all that is lent, whatever it held. Nothing here is a rule of the tool: it is what rules 11.18, 12.8, 12.9 and 17.6 come to.
+-- enough; and what is left of all that is lent, whatever it held. Nothing here is a rule of the tool: it is what rules 11.18, 11.24, 12.8, 12.9,
+-- 17.6 and 18.10 come to.
 use Prim.Native.Nat.{ℕ, _+_, _≤_, _<_}
 use mathlib.Core.Bool.{true, false}
 use mathlib.Core.Path.{_≡_}
@@ -30,6 +31,9 @@ use Rattle.clock.specs.Clock.{zeroTime, impossible}
 use Rattle.deadline.specs.declared.Judged.the-variants.{Met, NotMet}
 use Rattle.deadline.specs.declared.Judged.the-variants.{Refused as JudgedRefused}
 use Rattle.deadline.specs.Deadline.{JudgedSaid}
+use Rattle.facts.specs.declared.Side.the-variants.{High, Low}
+use Rattle.certificate.specs.Bound.{BoundSaid}
+use Rattle.boundary.specs.Certifying.{sideGiven, denominatorGiven, boundNumbers, boundShort}
 use Rattle.boundary.specs.Timed.{sheetGiven, deadlineGiven, judgedNumbers, figuresTold, judgedShort}
 use Rattle.boundary.specs.Told.{returned, left, told, readNumbers, analysedNumbers, checkedNumbers, totalsNumbers, wroteNumbers, nodeNumbers, blocksNumbers, headingGiven, headerTold, fieldsTold, readShort, analysedShort, checkedShort, totalsShort, wroteShort, blocksShort, nodeShort}
 
@@ -41,7 +45,7 @@ sample start = record { geometry = record { line = 5; sets = 3; ways = 2 }; star
 abbrev pub places : ℕ → List ℕ
 places count = listOf count (λ k. 9 + k)
 
--- Rules 12.9 and 17.6, answer by answer.
+-- Rules 12.9, 17.6 and 18.10, answer by answer.
 pub record ToldSounded : Type 0 where
   pub empty-told : headerNumbers (sample Empty) ≡ 5 ∷ 3 ∷ 2 ∷ 1 ∷ 9 ∷ 7 ∷ []
   pub unknown-told : headerNumbers (sample Unknown) ≡ 5 ∷ 3 ∷ 2 ∷ 0 ∷ 9 ∷ 7 ∷ []
@@ -78,6 +82,12 @@ pub record ToldSounded : Type 0 where
   pub met-figures-told : (low high : Float) (lent : List Float) → figuresTold (Met low high) lent ≡ written (low ∷ high ∷ []) lent
   pub not-met-figures-told : (low high : Float) (lent : List Float) → figuresTold (NotMet low high) lent ≡ written (low ∷ high ∷ []) lent
   pub no-figures-told : (refusal : Refusal) (lent : List Float) → figuresTold (JudgedRefused refusal) lent ≡ written (zeroTime ∷ zeroTime ∷ []) lent
+  -- a side by its number, and the denominator; beside a number of no side the denominator is 0, which is out of its range
+  pub high-given : sideGiven 0 ≡ High
+  pub low-given : sideGiven 1 ≡ Low
+  pub denominator-given : (denominator : ℕ) → (denominatorGiven 0 denominator ≡ denominator) × (denominatorGiven 1 denominator ≡ denominator)
+  pub no-side-given : (side denominator : ℕ) → 1 < side → denominatorGiven side denominator ≡ 0
+  pub bound-told : (said : BoundSaid) → boundNumbers said ≡ said .number ∷ said .place ∷ said .bound ∷ []
   -- a function's lists are too short for its answer exactly where one of them has fewer places than it needs
   pub read-room : (header answer : List ℕ) → 6 ≤ length header → 3 ≤ length answer → readShort header answer ≡ false
   pub header-short : (header answer : List ℕ) → length header < 6 → readShort header answer ≡ true
@@ -98,6 +108,8 @@ pub record ToldSounded : Type 0 where
   pub judged-room : (figures : List Float) (answer : List ℕ) → 2 ≤ length figures → 3 ≤ length answer → judgedShort figures answer ≡ false
   pub figures-short : (figures : List Float) (answer : List ℕ) → length figures < 2 → judgedShort figures answer ≡ true
   pub judged-short : (figures : List Float) (answer : List ℕ) → length answer < 3 → judgedShort figures answer ≡ true
+  pub bound-room : (answer : List ℕ) → 3 ≤ length answer → boundShort answer ≡ false
+  pub bound-short : (answer : List ℕ) → length answer < 3 → boundShort answer ≡ true
   -- without room 11 is returned, whatever the answer would be, and all is left as it was; with room the answer's number, a list keeps its tail, and
   -- what else is lent is left as the work leaves it
   pub short-returns : (number : ℕ) → returned true number ≡ 11

@@ -16,7 +16,7 @@ use Rattle.blocks.specs.Blocks.{gathered, overfull}
 use Rattle.chart.specs.declared.records.Record.the-variants.{Step, Reference}
 use Rattle.chart.specs.declared.shape.Geometry.{Geometry}
 use Rattle.refusals.specs.declared.Refusal.{Refusal}
-use Rattle.refusals.specs.declared.Refusal.the-variants.{TooShort, Edition, CacheShape, StartCode, NodeCount, EntryNode, SpareBits, Length, BrokenRecord, TooManyBlocks, ShortBuffer, Unsettled, NotPassing, BoundsLength, MissBelowHit, FloorAboveCeiling, FloorAtUnmarked, ImpossibleTimes}
+use Rattle.refusals.specs.declared.Refusal.the-variants.{TooShort, Edition, CacheShape, StartCode, NodeCount, EntryNode, SpareBits, Length, BrokenRecord, TooManyBlocks, ShortBuffer, Unsettled, NotPassing, BoundsLength, MissBelowHit, FloorAboveCeiling, FloorAtUnmarked, ImpossibleTimes, FactsLength, NumberOutOfRange, CertificateFails}
 use Rattle.refusals.specs.Refusals.{numberOf}
 use Rattle.chart.specs.declared.headers.HeaderFields.{HeaderFields}
 use Rattle.chart.specs.declared.records.RecordFields.{RecordFields}
@@ -198,6 +198,9 @@ module _ (Few Long Short : Type 0) (fields : HeaderFields) (records : ℕ → Re
   fields-answered more s (FloorAboveCeiling n) h = absurd h
   fields-answered more s (FloorAtUnmarked n) h = absurd h
   fields-answered more s ImpossibleTimes h = absurd h
+  fields-answered more s FactsLength h = absurd h
+  fields-answered more s NumberOutOfRange h = absurd h
+  fields-answered more s (CertificateFails n) h = absurd h
 
 -- ---- any bytes
 

@@ -13,7 +13,7 @@ use Rattle.blocks.specs.Blocks.{gathered}
 use Rattle.chart.specs.declared.headers.HeaderFields.{HeaderFields}
 use Rattle.chart.specs.declared.records.RecordFields.{RecordFields}
 use Rattle.refusals.specs.declared.Refusal.{Refusal}
-use Rattle.refusals.specs.declared.Refusal.the-variants.{TooShort, Edition, CacheShape, StartCode, NodeCount, EntryNode, SpareBits, Length, BrokenRecord, TooManyBlocks, ShortBuffer, Unsettled, NotPassing, BoundsLength, MissBelowHit, FloorAboveCeiling, FloorAtUnmarked, ImpossibleTimes}
+use Rattle.refusals.specs.declared.Refusal.the-variants.{TooShort, Edition, CacheShape, StartCode, NodeCount, EntryNode, SpareBits, Length, BrokenRecord, TooManyBlocks, ShortBuffer, Unsettled, NotPassing, BoundsLength, MissBelowHit, FloorAboveCeiling, FloorAtUnmarked, ImpossibleTimes, FactsLength, NumberOutOfRange, CertificateFails}
 use Rattle.chart.specs.Geometry.{mostNodes, mostBlocks, mostSetBits, mostWays}
 use Rattle.chart.specs.Bytes.{headerBytes, recordBytes}
 
@@ -98,6 +98,9 @@ Rows Few Long Short fields records MissBelowHit = ⊥
 Rows Few Long Short fields records (FloorAboveCeiling n) = ⊥
 Rows Few Long Short fields records (FloorAtUnmarked n) = ⊥
 Rows Few Long Short fields records ImpossibleTimes = ⊥
+Rows Few Long Short fields records FactsLength = ⊥
+Rows Few Long Short fields records NumberOutOfRange = ⊥
+Rows Few Long Short fields records (CertificateFails n) = ⊥
 
 -- Rules 11.1 to 11.10 of bytes, with the length of rule 1.3. The reader has no buffer.
 abbrev pub Applies : List ℕ → Refusal → Type 0

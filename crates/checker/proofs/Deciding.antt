@@ -1,8 +1,8 @@
 -- The checker's tests decide whether a lent table passes.
 use Prim.Native.Nat.{ℕ, _≤_, _<_}
 use mathlib.Core.Bool.{Bool, true, false, not, _&&_}
-use mathlib.Core.List.{List, [], _∷_}
-use mathlib.Core.Logic.{inl, inr, ⊎-elim}
+use mathlib.Core.List.{List}
+use mathlib.Core.Logic.{⊎-elim}
 use mathlib.Core.Path.{_≡_, refl, sym, ap, _∙_, subst}
 use native.Mathlib.Omega.{arith}
 use borrow.Author.Tests.{leb-true, le-leb, eqb-true, eq-eqb, not-true, not-false}
@@ -10,8 +10,8 @@ use lib.Dec.{leb, eqb}
 use lib.ListN.{length, getD, replicate, length-replicate, getD-replicate}
 use lib.Seq.{ext-getD}
 use Rattle.lists.specs.Lists.{Among}
-use Rattle.lists.specs.Choice.{every}
-use Rattle.lists.proofs.Choice.{and-true, true-and, or-true, true-or, every-all, all-every}
+use Rattle.lists.specs.Choice.{every, everyOf}
+use Rattle.lists.proofs.Choice.{and-true, true-and, or-true, true-or, every-all, all-every, everyOf-all, all-everyOf}
 use Rattle.lists.proofs.Listed.{length-listOf}
 use Rattle.lists.proofs.Orders.{below-or}
 use Rattle.cache.specs.Ages.{Columns, Ages, ageOf, Within, Tighter}
@@ -20,18 +20,9 @@ use Rattle.flow.specs.Passing.{CellBelow, CellOk, leaving, Passing}
 use Rattle.ages.specs.Plan.{Plan, columnsOf, arrowsIn, planFlow, Sound}
 use Rattle.tables.specs.Lent.{Lent, agesAt, tableOf, tableShort, TablePasses}
 use Rattle.tables.proofs.Laid.{tableOf-fits, tableOf-at, tableOf-past, long-enough, not-short}
-use Rattle.checker.specs.Checker.{fits, zeroed, covers, marked, everyOf, allows, markPlain, agesFit, unmarkedZero, entryAllows, arrowsAllow, nodePassing, passing}
+use Rattle.checker.specs.Checker.{fits, zeroed, covers, marked, allows, markPlain, agesFit, unmarkedZero, entryAllows, arrowsAllow, nodePassing, passing}
 
 -- ---- tests
-
-everyOf-all : (test : ℕ → Bool) (xs : List ℕ) → everyOf test xs ≡ true → (t : ℕ) → Among t xs → test t ≡ true
-everyOf-all test [] e t i = absurd i
-everyOf-all test (x ∷ xs) e t (inl q) = rw q (and-true (test x) (everyOf test xs) e .0)
-everyOf-all test (x ∷ xs) e t (inr i) = everyOf-all test xs (and-true (test x) (everyOf test xs) e .1) t i
-
-all-everyOf : (test : ℕ → Bool) (xs : List ℕ) → ((t : ℕ) → Among t xs → test t ≡ true) → everyOf test xs ≡ true
-all-everyOf test [] h = refl
-all-everyOf test (x ∷ xs) h = true-and (test x) (everyOf test xs) (h x (inl refl)) (all-everyOf test xs (λ t i. h t (inr i)))
 
 -- Two tests of each number below n.
 every-both : (n : ℕ) (one other : ℕ → Bool) → every n (λ k. one k && other k) ≡ true → (k : ℕ) → k < n → (one k ≡ true) × (other k ≡ true)

@@ -3,3 +3,4 @@ pub mod Testing
 pub mod Used
 pub mod Answers
 pub mod Answering
+pub mod Tabled

@@ -7,7 +7,7 @@ use native.Mathlib.Omega.{arith}
 use borrow.Author.Tests.{ne-eqb}
 use lib.Dec.{leb}
 use lib.ListN.{getD}
-use Rattle.lists.specs.Choice.{every}
+use Rattle.lists.specs.Choice.{every, everyOf}
 use Rattle.lists.proofs.Choice.{and-last, every-same}
 use Rattle.lists.proofs.Joined.{row-in}
 use Rattle.lists.proofs.Listed.{getD-listOf}
@@ -25,7 +25,7 @@ use Rattle.rows.specs.Rows.{columnsBy, agesIn, asRow}
 use Rattle.tables.specs.Lent.{Lent, agesAt}
 use Rattle.tables.specs.Inner.{Roomy, rowAfter, AgesAgree}
 use Rattle.tables.proofs.After.{after-agrees, start-agrees}
-use Rattle.checker.specs.Checker.{fits, zeroed, marked, everyOf, rowAges, allows, agesFit, entryAllows, nodePassing}
+use Rattle.checker.specs.Checker.{fits, zeroed, marked, rowAges, allows, agesFit, entryAllows, nodePassing}
 use Rattle.checker.specs.Inner.{RowIn}
 
 -- ---- turns

@@ -2,11 +2,11 @@
 -- 12.9; demand 2 has it that the tests and `TablePasses` agree. An age is held to the limit of its column, which for a chart is A. Any mark but 0
 -- makes a node marked, and that it is 1 is a test of its own. In numbers yes is 1 and no is 0.
 use Prim.Native.Nat.{ℕ}
-use mathlib.Core.Bool.{Bool, true, not, cond, _&&_, _||_}
+use mathlib.Core.Bool.{Bool, not, cond, _&&_, _||_}
 use mathlib.Core.List.{List, [], _∷_}
 use lib.ListN.{getD}
 use lib.Dec.{leb, eqb}
-use Rattle.lists.specs.Choice.{_⇒_, firstCase, every}
+use Rattle.lists.specs.Choice.{_⇒_, firstCase, every, everyOf}
 use Rattle.refusals.specs.declared.Refusal.the-variants.{ShortBuffer}
 use Rattle.refusals.specs.Refusals.{numberOf, placeOf}
 use Rattle.chart.specs.Chart.{Read, accepted, refused, readChart}
@@ -44,11 +44,6 @@ covers count a b =
 -- Rule 7.2, but that any number other than 0 counts as 1.
 abbrev pub marked : Lent → ℕ → Bool
 marked lent n = not (eqb (getD (lent .marks) n 0) 0)
-
--- A test holds of all of a list.
-abbrev pub everyOf : (ℕ → Bool) → List ℕ → Bool
-everyOf test [] = true
-everyOf test (x ∷ xs) = test x && everyOf test xs
 
 -- Row n of a table of so many blocks.
 abbrev pub rowAges : ℕ → List ℕ → List ℕ → ℕ → Ages

@@ -1,10 +1,11 @@
 // Works out whether rows of a lent table allow the ages that come to them (rules 7.5 and 7.6). Callers keep that these rows and their marks are
 // there, and that a row has no more blocks than a chart may have. Nothing is refused here.
 ghost use mathlib.Core.Path.{_≡_};
+ghost use Rattle.lists.specs.Choice.{everyOf};
 ghost use Rattle.chart.specs.Record.{arrowsOf};
 ghost use Rattle.rows.specs.Rows.{agesIn};
 ghost use Rattle.tables.specs.Contract.{lentTable, entryTable};
-ghost use Rattle.checker.specs.Checker.{everyOf, allows};
+ghost use Rattle.checker.specs.Checker.{allows};
 ghost use Rattle.checker.specs.Inner.{RowIn, TargetsIn};
 use chart::Targets;
 use rows::Row;

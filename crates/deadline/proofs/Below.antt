@@ -60,7 +60,7 @@ module _ (chart : Chart) (n : ℕ) (inside : n < chart .header .nodes) (rate : �
       subst (λ (touches : List ColumnTouch). length touches ≤ 2) (sym (touches-planned chart n inside))
       (rw (length-map (touches chart n) (columnTouch chart)) (touched-few (chart .header .geometry) (chart .node n .what)))
 
-  visit-most : (cell : Cell Ages) → visitCost (classesAt (planOf chart) n) rate cell ≤ 2 * 65535
+  pub visit-most : (cell : Cell Ages) → visitCost (classesAt (planOf chart) n) rate cell ≤ 2 * 65535
   visit-most blank = omega arith
   visit-most (holds a) =
       le-trans (rates-most rate 65535 most (classesAt (planOf chart) n a))

@@ -66,5 +66,8 @@ anywhere =
       buffers-left = λ blocks must may marks classes answer. refl;
       table-lent = λ must may marks. refl;
       figures-lent = λ hit miss floors ceilings. refl;
+      facts-lent = λ coefficients limits. refl;
+      certificate-lent = λ multipliers potentials denominator. refl;
+      question-asked = λ side hit miss facts certificate. refl;
       age-place = λ count n column buffer h. getD-listOf count _ 0 column h;
     }

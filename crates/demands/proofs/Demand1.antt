@@ -6,6 +6,7 @@ use Rattle.demands.proofs.Checking.{checker-refusals, checker-used}
 use Rattle.demands.proofs.Writing.{writer-refusals, fields-refusals}
 use Rattle.demands.proofs.Totalling.{totals-refusals, totals-numbers, totals-refusal, totals-used}
 use Rattle.demands.proofs.Judging.{judged-refusals, judged-used}
+use Rattle.demands.proofs.Bounding.{bounding}
 use Rattle.demands.proofs.Numbers.{header-numbers, reading-numbers, analysis-numbers, checker-numbers, header-refusal, reading-refusal, analysis-refusal, analysis-refused, analysis-unsettled, checker-refusal}
 
 pub demand1 : Demand1
@@ -16,6 +17,7 @@ demand1 =
       checker = λ bytes chart table read. checker-refusals bytes chart table read;
       totalling = λ bytes chart table figures read. totals-refusals bytes chart table figures read;
       judging = λ bytes table figures sheet deadline. judged-refusals bytes table figures sheet deadline;
+      bounding = bounding;
       fields = fields-refusals;
       writing = writer-refusals;
       header-numbers = header-numbers;

@@ -9,7 +9,7 @@ use lib.Dec.{eqb}
 use lib.ListN.{getD, length, drop}
 use Rattle.lists.proofs.Joined.{getD-written}
 use Rattle.chart.specs.Chart.{Chart, accepted, readChart, touches}
-use Rattle.refusals.proofs.Numbers.{number-tag}
+use Rattle.refusals.proofs.Numbers.{number-positive}
 use Rattle.cache.specs.Ages.{Ages}
 use Rattle.ages.specs.Charted.{planOf}
 use Rattle.machine.specs.Machine.{plainMachine, Contents, costOf}
@@ -125,7 +125,7 @@ given-summable bytes chart table figures read given = go (totals bytes table fig
   where
     go : (answer : Totals) → totals bytes table figures ≡ answer → Summable chart table figures
     go (Between low high) e = totals-refusals bytes chart table figures read .only-sums low high e
-    go (Refused refusal) e = absurd (omega (arith, ap (λ (t : Totals). totalsSay t .number) e, number-tag refusal))
+    go (Refused refusal) e = absurd (omega (arith, ap (λ (t : Totals). totalsSay t .number) e, number-positive refusal))
 
 -- ---- the classes that the analysis writes
 

@@ -8,7 +8,7 @@ use native.Mathlib.Omega.{arith}
 use lib.Ieee.{Float, toBits}
 use Rattle.refusals.specs.declared.Refusal.{Refusal}
 use Rattle.refusals.specs.declared.Refusal.the-variants.{ImpossibleTimes}
-use Rattle.refusals.proofs.Numbers.{number-tag}
+use Rattle.refusals.proofs.Numbers.{number-positive}
 use Rattle.clock.specs.declared.ClockSheet.{ClockSheet}
 use Rattle.clock.specs.declared.Deadline.{Deadline}
 use Rattle.clock.specs.Clock.{figureOf, bitsOf, impossible, meets}
@@ -99,7 +99,7 @@ module _ (bytes : List ℕ) (table : Lent) (figures : Figures) (sheet : ClockShe
       go : (given : Totals) → totals bytes table figures ≡ given → Verdict answer
       go (TotalsRefused refusal) e =
           let number = subst (λ (given : Judged). judgedSay given .number ≡ 0) (answered (TotalsRefused refusal) e) none in
-          absurd (omega (arith, number-tag refusal))
+          absurd (omega (arith, number-positive refusal))
       go (Between low high) sums = by-time (impossible sheet deadline) refl
         where
           by-time : (unfit : Bool) → impossible sheet deadline ≡ unfit → Verdict answer

@@ -4,6 +4,8 @@ pub mod Numbers
 pub mod Checking
 pub mod Analysing
 pub mod Totalling
+pub mod Ranged
+pub mod Bounding
 pub mod Judging
 pub mod Truth
 pub mod Keeping
@@ -18,6 +20,11 @@ pub mod Demand1
 pub mod Demand2
 pub mod Demand3
 pub mod OnTime
+pub mod AsFacts
+pub mod Multiplying
+pub mod Recovered
+pub mod Visiting
+pub mod Certified
 pub mod Demands
 pub mod Anywhere
 pub mod Leaving

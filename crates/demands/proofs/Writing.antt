@@ -14,7 +14,7 @@ use Rattle.lists.specs.Telling.{Tells, AllTell, Numbered, Answered}
 use Rattle.lists.proofs.Choice.{first-through, first-applies, applies-first, none-applies, first-otherwise}
 use Rattle.lists.proofs.Telling.{tells-ltb, tells-same, holds-true, first-only, first-given, none-given, none-only}
 use Rattle.refusals.specs.declared.Refusal.{Refusal}
-use Rattle.refusals.specs.declared.Refusal.the-variants.{TooShort, Edition, CacheShape, StartCode, NodeCount, EntryNode, SpareBits, Length, BrokenRecord, TooManyBlocks, ShortBuffer, Unsettled, NotPassing, BoundsLength, MissBelowHit, FloorAboveCeiling, FloorAtUnmarked, ImpossibleTimes}
+use Rattle.refusals.specs.declared.Refusal.the-variants.{TooShort, Edition, CacheShape, StartCode, NodeCount, EntryNode, SpareBits, Length, BrokenRecord, TooManyBlocks, ShortBuffer, Unsettled, NotPassing, BoundsLength, MissBelowHit, FloorAboveCeiling, FloorAtUnmarked, ImpossibleTimes, FactsLength, NumberOutOfRange, CertificateFails}
 use Rattle.refusals.specs.Refusals.{numberOf}
 use Rattle.chart.specs.Layout.{chartLength}
 use Rattle.chart.specs.Refusing.{ShapeKeeps}
@@ -125,6 +125,9 @@ module _ (heading : Heading) (lists : NodeLists) (lent : List ℕ) where
       by-row (FloorAboveCeiling n) h = absurd h
       by-row (FloorAtUnmarked n) h = absurd h
       by-row ImpossibleTimes h = absurd h
+      by-row FactsLength h = absurd h
+      by-row NumberOutOfRange h = absurd h
+      by-row (CertificateFails n) h = absurd h
 
   -- The buffer is as long as it was.
   long-left : (a : Wrote) → wrote heading lists lent .answer ≡ a → length (wrote heading lists lent .chart) ≡ length lent

@@ -1,6 +1,6 @@
 -- What is so at every node, place, length and number, however large. Soundings are of small charts: a rule that changes from some number on, in
 -- definition and code alike, would pass them all. The limits stand here as numbers, and not by name. Rules 1.4, 3.3, 6.3 to 6.5, 8.1, 8.2, 10.2,
--- 10.3, 11.0, 12.2, 13.1 to 13.3, 14.1, 14.2, 14.4, 15.2, 15.5, 16.3 and 16.4. `anywhere` in proofs/Anywhere.antt proves it.
+-- 10.3, 11.0, 12.2, 13.1 to 13.3, 14.1, 14.2, 14.4, 15.2, 15.5, 16.3, 16.4, 18.1 and 18.2. `anywhere` in proofs/Anywhere.antt proves it.
 use Prim.Native.Nat.{ℕ, suc, _+_, _*_, _/_, _%_, _≤_, _<_}
 use mathlib.Core.List.{List, [], _∷_, _++_}
 use mathlib.Core.Path.{_≡_}
@@ -8,11 +8,16 @@ use lib.ListN.{length, getD, take}
 use denote.Ref.{now}
 use Rattle.lists.specs.Slices.{Slice}
 use Rattle.lists.specs.Lists.{listOf, joined, written}
-use Rattle.refusals.specs.declared.Refusal.the-variants.{BrokenRecord, TooManyBlocks, FloorAboveCeiling, FloorAtUnmarked}
+use Rattle.refusals.specs.declared.Refusal.the-variants.{BrokenRecord, TooManyBlocks, FloorAboveCeiling, FloorAtUnmarked, CertificateFails}
 use Rattle.refusals.specs.Refusals.{placeOf}
 use Rattle.chart.specs.Geometry.{mostNodes}
 use Rattle.chart.specs.Chart.{Chart, blockCount}
 use Rattle.flow.specs.Flow.{Cell, blank, holds, cellAt}
+use Rattle.facts.specs.declared.Side.{Side}
+use Rattle.facts.specs.Slices.{Wholes}
+use Rattle.facts.specs.Facts.{Facts}
+use Rattle.facts.specs.Certificate.{Certificate}
+use Rattle.facts.specs.Listed.{entryFacts, entryCertificate}
 use Rattle.cache.specs.Ages.{Ages, touchAges}
 use Rattle.ages.specs.Plan.{ColumnTouch, Plan, columnsOf, touchesIn, planFlow}
 use Rattle.layout.specs.Rows.{rowAt}
@@ -25,6 +30,7 @@ use Rattle.analysis.specs.declared.Analysed.{Analysed}
 use Rattle.analysis.specs.declared.Analysed.the-variants.{Settled}
 use Rattle.analysis.specs.Analysis.{Left, entryBuffers, exitLeft, analysed}
 use Rattle.totals.specs.Totals.{entryFigures}
+use Rattle.certificate.specs.Bound.{asked}
 use Rattle.report.specs.Text.{nodesWord, blocksWord, passesWord, decimalBy, decimal}
 use Rattle.report.specs.Report.{taken, classWord, nodeLine, zeroBuffers, reportOf, reportLeft, report}
 use Rattle.report.specs.Ending.{refusedBy, refuses}
@@ -64,8 +70,8 @@ pub record Anywhere : Type 0 where
   pub last-digit : (digits n : ℕ) → 10 ≤ n → decimalBy (suc digits) n ≡ decimalBy digits (n / 10) ++ ((48 + n % 10) ∷ [])
   -- rule 11.0: the node at fault
   pub places : (n : ℕ)
-      → placeOf (BrokenRecord n) ∷ placeOf (TooManyBlocks n) ∷ placeOf (FloorAboveCeiling n) ∷ placeOf (FloorAtUnmarked n) ∷ []
-      ≡ n ∷ n ∷ n ∷ n ∷ []
+      → placeOf (BrokenRecord n) ∷ placeOf (TooManyBlocks n) ∷ placeOf (FloorAboveCeiling n) ∷ placeOf (FloorAtUnmarked n) ∷ placeOf (CertificateFails n) ∷ []
+      ≡ n ∷ n ∷ n ∷ n ∷ n ∷ []
   -- rules 8.1, 8.2 and 12.2: a node's two classes and their places, whichever node it is; the second is read after the first touch
   pub classes-long : (plan : Plan) (table : List (Cell Ages)) → length (tableClasses plan table) ≡ 2 * plan .nodes
   pub first-listed : (plan : Plan) (table : List (Cell Ages)) (n : ℕ) → n < plan .nodes → getD (tableClasses plan table) (2 * n) 0 ≡ nodeClass plan n 0 (cellAt table n)
@@ -136,5 +142,13 @@ pub record Anywhere : Type 0 where
   pub figures-lent : (hit miss : ℕ) (floors ceilings : Slice)
       → entryFigures hit miss floors ceilings
       ≡ record { costs = record { hit = hit; miss = miss }; floors = now (floors .entry); ceilings = now (ceilings .entry) }
+  pub facts-lent : (coefficients limits : Wholes)
+      → entryFacts coefficients limits ≡ record { coefficients = now (coefficients .entry); limits = now (limits .entry) }
+  pub certificate-lent : (multipliers potentials : Wholes) (denominator : ℕ)
+      → entryCertificate multipliers potentials denominator
+      ≡ record { multipliers = now (multipliers .entry); potentials = now (potentials .entry); denominator = denominator }
+  pub question-asked : (side : Side) (hit miss : ℕ) (facts : Facts) (certificate : Certificate)
+      → asked side hit miss facts certificate
+      ≡ record { costs = record { hit = hit; miss = miss }; side = side; facts = facts; certificate = certificate }
   -- rule 12.2: where a node's ages stand
   pub age-place : (count n column : ℕ) (buffer : List ℕ) → column < count → getD (rowAt count buffer n) column 0 ≡ getD buffer (n * count + column) 0

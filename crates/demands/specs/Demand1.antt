@@ -1,8 +1,8 @@
 -- Demand 1, as those who ordered the tool put it: "Any bytes and any buffer lengths get an answer or a numbered refusal. What a refusal
 -- returns and leaves behind, and when each is given, is written down."
 -- The definitions answer for every input whatever; this is what they say of each refusal of the reader, of the header alone, of the analysis, of the
--- checker, of the totals, of a deadline, of the writer, of a node read alone and of the blocks listed: rules 3.4, 11.0 to 11.18, 12.1 to 12.3, 12.5
--- to 12.8, 15.1 to 15.6 and 17.5. Proved as `demand1` in proofs/Demand1.antt.
+-- checker, of the totals, of a deadline, of a certificate's bound, of the writer, of a node read alone and of the blocks listed: rules 3.4, 11.0 to 11.18,
+-- 11.23 to 11.25, 12.1 to 12.3, 12.5 to 12.8, 15.1 to 15.6, 17.5 and 18.9. Proved as `demand1` in proofs/Demand1.antt.
 use Prim.Native.Nat.{ℕ, _*_, _≤_, _<_}
 use mathlib.Core.Path.{_≡_}
 use mathlib.Core.Bool.{true, false}
@@ -45,6 +45,7 @@ use Rattle.clock.specs.declared.ClockSheet.{ClockSheet}
 use Rattle.clock.specs.declared.Deadline.{Deadline}
 use Rattle.deadline.specs.Deadline.{judged}
 use Rattle.demands.specs.Judging.{JudgedRefusals}
+use Rattle.demands.specs.Bounding.{Bounding}
 use Rattle.demands.specs.Writing.{WriterRefusals, FieldsRefusals}
 
 -- Rule 11.12: each of so many passes changes something.
@@ -64,7 +65,8 @@ abbrev pub NoneBefore : List ℕ → Refusal → Type 0
 NoneBefore bytes refusal = (other : Refusal) → numberOf other < numberOf refusal → Applies bytes other → ⊥
 
 -- Rules 11.0 to 11.10 and 12.1: when refusals 1 to 10 are given, that reader, analysis, checker and totals all give them and the header alone
--- gives 1 to 8, and what they leave behind. That reading a node and listing the blocks give them too stands in `FieldsRefusals`.
+-- gives 1 to 8, and what they leave behind. That reading a node and listing the blocks give them too stands in `FieldsRefusals`, that a deadline does in
+-- `JudgedRefusals`, and that a certificate's bound does in `Bounding`.
 pub record ReadingRefusals : Type 0 where
   pub order : (bytes : List ℕ) → numbersOf (chartCases bytes) ≡ 1 ∷ 2 ∷ 3 ∷ 4 ∷ 5 ∷ 6 ∷ 7 ∷ 8 ∷ 9 ∷ 10 ∷ []
   pub given : (bytes : List ℕ) (refusal : Refusal) → FirstApplies (chartCases bytes) refusal → readChart bytes ≡ refused refusal
@@ -177,10 +179,12 @@ pub record Demand1 : Type 0 where
       → TotalsRefusals bytes chart table figures
   -- rule 17.5
   pub judging : (bytes : List ℕ) (table : Lent) (figures : Figures) (sheet : ClockSheet) (deadline : Deadline) → JudgedRefusals bytes table figures sheet deadline
+  -- rules 11.23 to 11.25 and 18.9: of a certificate's bound
+  pub bounding : Bounding
   -- rules 15.1 to 15.6
   pub fields : FieldsRefusals
   pub writing : (heading : Heading) (lists : NodeLists) (lent : List ℕ) → WriterRefusals heading lists lent
-  -- rules 12.1, 12.3, 12.5 and 12.6: which numbers a function gives, and no others
+  -- rules 12.1, 12.3, 12.5 and 12.6: which numbers a function gives, and no others; of deadlines and bounds this stands above
   pub header-numbers : (bytes : List ℕ) → readHeaderSays bytes .number ≤ 8
   pub reading-numbers : (bytes : List ℕ) → readSays bytes .number ≤ 10
   pub analysis-numbers : (bytes : List ℕ) (allowance : ℕ) (lent : Buffers) → analyseSays bytes allowance lent .number ≤ 12
@@ -212,8 +216,8 @@ pub record Demand1 : Type 0 where
       → totalSays bytes table figures ≡ record { number = numberOf refusal; place = placeOf refusal; low = 0; high = 0 }
   -- no buffer grows or shrinks
   pub same-lengths : (bytes : List ℕ) (allowance : ℕ) (lent : Buffers) → SameLengths lent (analysed bytes allowance lent .buffers)
-  -- rules 12.7 and 17.5: checker, totals and deadline cannot tell two tables apart that differ beyond the used parts. That they write to nothing
-  -- needs no field: what is lent to them are `&` slices
+  -- rules 12.7 and 17.5: checker, totals and deadline cannot tell two tables apart that differ beyond the used parts; that the bound cannot stands in
+  -- `bounding`. That they write to nothing needs no field: what is lent to them are `&` slices
   pub checker-used : (bytes : List ℕ) (chart : Chart) (one other : Lent)
       → readChart bytes ≡ accepted chart
       → SameUsed (planOf chart) one other

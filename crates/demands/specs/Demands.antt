@@ -14,13 +14,15 @@
 -- what the first leaves of them. Where they leave it open, it goes by the other blocks of its set that walks have touched since their last touch of its
 -- block: if these are fewer than the set has ways it is called *kept*, and else unsure. The *analysis* makes such a table; the *checker* tries one that
 -- anybody made. For each node the caller says how often a walk visits it, no less than a *floor* and no more than a *ceiling*; what a walk then costs
--- lies between the two *totals*. A caller lends *buffers*, as long as it likes, for a function to read or to fill. Where a function cannot answer it
--- gives a *refusal*, a number by rules 11.0 to 11.18, with the node at fault.
+-- lies between the two *totals*. Or the caller says *facts* of a walk, each that its visits, times whole numbers, add up to no more than a limit, and hands
+-- over a *certificate*, made by anybody, of what follows from them for the cost; where it holds, it comes to a *bound*. A caller lends *buffers*, as long as
+-- it likes, for a function to read or to fill. Where a function cannot answer it gives a *refusal*, a number by rules 11.0 to 11.18 and 11.23 to 11.25, with
+-- the node at fault.
 --
 -- 1. Ask it anything. Whatever bytes or numbers come, and however short a lent buffer is, the reader of charts, the analysis, the checker, the
---    totals, the function that tells whether a *deadline* in microseconds is met, the *writer*, which makes a chart's bytes from its fields, and
---    the functions that tell a chart's fields and list its blocks give an answer or a refusal. It is written down when each refusal is given, what
---    it returns and what it leaves in the buffers. A caller checks nothing first.
+--    totals, the function that tells whether a *deadline* in microseconds is met, the one that gives a certificate's bound, the *writer*, which makes a
+--    chart's bytes from its fields, and the functions that tell a chart's fields and list its blocks give an answer or a refusal. It is written down
+--    when each refusal is given, what it returns and what it leaves in the buffers. A caller checks nothing first.
 --                                                                                        `demand1` in proofs/Demand1.antt
 --
 -- 2. It says as much as can be said. The checker passes a table exactly if it keeps rules 7.2 to 7.6, which are the equations of ages. Where the
@@ -41,10 +43,14 @@
 -- And so does what a deadline that is met says: what the plain machine pays on a walk within floors and ceilings, as a figure in microseconds by the
 -- clock that was given, is no later than the deadline allows, and no earlier (`OnTime`). `on-time` in proofs/OnTime.antt
 --
+-- And what the bound of a certificate says: what the plain machine pays on a walk that keeps the facts is no more than the bound of the high side, and no
+-- less than that of the low one, whatever table passes and whatever the chart allows at the start. That a walk keeps them is for the caller to know. Floors
+-- and ceilings are facts too, with certificates that come to the two totals (`Certified`). `certified` in proofs/Certified.antt
+--
 -- All of it speaks of the answers of functions, through what these promise: `chart::read` (`reading`), `chart::read_header` (`headerRead`),
--- `analysis::analyse` (`analysed`), `checker::check` (`checked`), `totals::total` (`totals`), `deadline::judge` (`judged`), `writer::write`
--- (`wrote`), `fields::read_node` (`nodeRead`) and `fields::read_blocks` (`blocksRead`). Each promise is an equation with the definition of that name,
--- so what is shown of the definition is shown of the function's answer.
+-- `analysis::analyse` (`analysed`), `checker::check` (`checked`), `totals::total` (`totals`), `deadline::judge` (`judged`), `certificate::bound`
+-- (`bounded`), `writer::write` (`wrote`), `fields::read_node` (`nodeRead`) and `fields::read_blocks` (`blocksRead`). Each promise is an equation with
+-- the definition of that name, so what is shown of the definition is shown of the function's answer.
 use Rattle.demands.specs.Demand1.{Demand1}
 use Rattle.demands.specs.Demand2.{Demand2}
 use Rattle.demands.specs.Demand3.{Demand3}

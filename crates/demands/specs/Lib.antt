@@ -7,6 +7,9 @@ pub mod Demand1
 pub mod Demand2
 pub mod Demand3
 pub mod OnTime
+pub mod Bounding
+pub mod AsFacts
+pub mod Certified
 pub mod Charts
 pub mod Soundings
 pub mod Refused
@@ -19,6 +22,9 @@ pub mod Shared
 pub mod Edges
 pub mod Straddling
 pub mod Staying
+pub mod Certifying
+pub mod Varied
+pub mod Unbounded
 pub mod Inner
 pub mod Examples
 pub mod Anywhere

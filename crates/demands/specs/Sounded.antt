@@ -10,6 +10,8 @@ use Rattle.lists.specs.Soundings.{Hold}
 use Rattle.cache.specs.Plain.{emptyCache}
 use Rattle.lists.specs.Lists.{Among}
 use Rattle.flow.specs.Walk.{Walk, lastOf}
+use Rattle.facts.specs.declared.Side.the-variants.{High}
+use Rattle.facts.specs.Whole.{InWholes}
 use Rattle.analysis.specs.Analysis.{tableIn}
 use Rattle.checker.specs.declared.Checked.the-variants.{Yes}
 use Rattle.checker.specs.Checker.{checked}
@@ -25,10 +27,13 @@ use Rattle.clock.specs.Laws.{ExactSheet}
 use Rattle.clock.specs.Sounded.{number, zero, eighth, two, twoAndHalf, sheet, latest, figuresSounded, timesSounded, refusalsSounded, verdictsSounded, ClockSounded}
 use Rattle.deadline.specs.declared.Judged.the-variants.{Met}
 use Rattle.deadline.specs.Deadline.{judged}
+use Rattle.certificate.specs.declared.Bounded.the-variants.{At}
+use Rattle.certificate.specs.Bound.{bounded}
 use Rattle.report.specs.Report.{report}
 use Rattle.report.specs.Ending.{refuses, endingOf}
-use Rattle.chart.specs.Chart.{Chart}
+use Rattle.chart.specs.Chart.{Chart, chartIn}
 use Rattle.ages.specs.Plan.{Plan, planFlow}
+use Rattle.ages.specs.Charted.{planOf}
 use Rattle.kept.specs.Kept.{keptFlow}
 use Rattle.classes.specs.Class.{classBy}
 use Rattle.machine.specs.Machine.{plainMachine, Contents, costOf}
@@ -44,6 +49,12 @@ use Rattle.demands.specs.Refused.{damaged, unanalysed}
 use Rattle.demands.specs.Tabled.{unchecked, looser, untotalled, summed}
 use Rattle.demands.specs.Timely.{quarter, least, most, timely}
 use Rattle.demands.specs.OnTime.{JudgedWalk}
+use Rattle.demands.specs.AsFacts.{visitQuestion}
+use Rattle.demands.specs.Certified.{WalkKeeps, costIn}
+use Rattle.demands.specs.Certifying.{branch, branchTable, branchWalk, tenSides, nested, nestedTable, fourRounds, oneRound, longest, shortest}
+use Rattle.demands.specs.Certifying.{bounds, lowBounds, atTheEnds}
+use Rattle.demands.specs.Varied.{branchFigures, settledSo, varied, figuresAsFacts}
+use Rattle.demands.specs.Unbounded.{notBounded}
 use Rattle.demands.specs.Corners.{corners, unknownStart, strangers}
 use Rattle.demands.specs.Shared.{sharedSoundings, shapeSoundings}
 use Rattle.demands.specs.Edges.{leftBehind, edges, elevenSteps, elevenReport}
@@ -88,6 +99,8 @@ pub record Sounded : Type 0 where
   pub taken-at-any : (plan : Plan) → Taking (planFlow plan)
   pub kept-taken-at-any : (plan : Plan) (column : ℕ) → Taking (keptFlow plan column)
   pub sets-at-any : Sets
+  -- facts and certificates by whole numbers as they are, in place of what is above 0 and what is below (rules 18.1 and 18.3 to 18.7)
+  pub wholes-at-any : InWholes
   -- how the program ends (rule 13.3): which inputs are refused, and the status of a report and of a refusal, written whole and not
   pub sample-not-refused : refuses loopChart ≡ false
   pub no-bytes-refused : refuses [] ≡ true
@@ -103,6 +116,30 @@ pub record Sounded : Type 0 where
   pub summed-hold : Hold summed
   -- deadlines of the loop, figures that are infinite, and refusal 18 behind those of the totals
   pub timely-hold : Hold timely
+  -- bounds of certificates that are worked out by hand, on both sides and of more charts, the ends of the ranges, and refusals 23 to 25 behind the others
+  pub bounds-hold : Hold bounds
+  pub low-bounds-hold : Hold lowBounds
+  pub at-the-ends-hold : Hold atTheEnds
+  pub settled-so-hold : Hold settledSo
+  pub varied-hold : Hold varied
+  pub figures-as-facts-hold : Hold figuresAsFacts
+  pub not-bounded-hold : Hold notBounded
+  -- the branch's floors and ceilings as facts come to its total, too
+  pub branch-as-facts : bounded branch branchTable (visitQuestion (planOf (chartIn branch)) branchTable branchFigures High) ≡ At 78
+  -- the walk by both sides in turn keeps the fact of the sides: what is said of certificates speaks of it, and its cost is the bound
+  pub both-sides-walk : OnWalk branch (chartIn branch) emptyCache branchWalk
+  pub both-sides-keep : WalkKeeps (chartIn branch) tenSides branchWalk
+  pub both-sides-bounded : bounded branch branchTable tenSides ≡ At 68
+  pub both-sides-paid : costIn (chartIn branch) tenSides branchWalk emptyCache ≡ 68
+  -- and so it does of the longest walk of a loop within a loop, whose facts have coefficients below -1, and of the shortest one, on the low side
+  pub longest-walk : OnWalk nested (chartIn nested) emptyCache longest
+  pub longest-keeps : WalkKeeps (chartIn nested) fourRounds longest
+  pub longest-bounded : bounded nested nestedTable fourRounds ≡ At 133
+  pub longest-paid : costIn (chartIn nested) fourRounds longest emptyCache ≡ 133
+  pub shortest-walk : OnWalk nested (chartIn nested) emptyCache shortest
+  pub shortest-keeps : WalkKeeps (chartIn nested) oneRound shortest
+  pub shortest-bounded : bounded nested nestedTable oneRound ≡ At 31
+  pub shortest-paid : costIn (chartIn nested) oneRound shortest emptyCache ≡ 31
   -- what analysis and plain machine share
   pub shared-hold : Hold sharedSoundings
   pub shapes-hold : Hold shapeSoundings
@@ -145,9 +182,11 @@ pub record Sounded : Type 0 where
       ++ map length (nodesRead ∷ blocksListed ∷ loopWritten ∷ fieldsPacked ∷ headingsRefused ∷ nodesRefused ∷ ordered ∷ crowds ∷ [])
       ++ map length (starred ∷ damaged ∷ unanalysed ∷ unchecked ∷ looser ∷ untotalled ∷ summed ∷ corners ∷ sharedSoundings ∷ shapeSoundings ∷ [])
       ++ map length (figuresSounded ∷ timesSounded ∷ refusalsSounded ∷ verdictsSounded ∷ timely ∷ [])
+      ++ map length (bounds ∷ lowBounds ∷ atTheEnds ∷ settledSo ∷ varied ∷ figuresAsFacts ∷ notBounded ∷ [])
       ++ map length (leftBehind ∷ edges ∷ straddling ∷ straddlingPaid ∷ stayingPasses ∷ staying ∷ stayingPaid ∷ stayingApart ∷ right ∷ mistaken ∷ examples ∷ [])
       ≡ (9 ∷ 12 ∷ 22 ∷ 19 ∷ 11 ∷ 8 ∷ [])
       ++ (5 ∷ 5 ∷ 4 ∷ 1 ∷ 24 ∷ 31 ∷ 7 ∷ 2 ∷ [])
       ++ (13 ∷ 26 ∷ 13 ∷ 13 ∷ 10 ∷ 20 ∷ 8 ∷ 17 ∷ 13 ∷ 6 ∷ [])
       ++ (24 ∷ 3 ∷ 10 ∷ 9 ∷ 23 ∷ [])
+      ++ (27 ∷ 10 ∷ 8 ∷ 9 ∷ 20 ∷ 4 ∷ 37 ∷ [])
       ++ (11 ∷ 12 ∷ 15 ∷ 11 ∷ 4 ∷ 13 ∷ 6 ∷ 4 ∷ 6 ∷ 6 ∷ 28 ∷ [])

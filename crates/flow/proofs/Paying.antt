@@ -11,7 +11,7 @@ use Rattle.lists.proofs.Sums.{sum-both, sum-equal, sum-most, sum-pick, sum-mono
 use Rattle.flow.specs.Walk.{visitsOf, inTurn, Machine, paidAt, paid, AtNodes, sumAlong}
 
 -- The sum over the nodes of a walk, one after the other.
-abbrev along : (ℕ → ℕ) → List ℕ → ℕ
+abbrev pub along : (ℕ → ℕ) → List ℕ → ℕ
 along cost [] = 0
 along cost (n ∷ ns) = cost n + along cost ns
 
@@ -79,11 +79,11 @@ module _ {E : Type 0} (M : Machine E) (touches : ℕ → List E) where
 
 -- ---- each node times its visits
 
-abbrev AllBelow : ℕ → List ℕ → Type 0
+abbrev pub AllBelow : ℕ → List ℕ → Type 0
 AllBelow nodes [] = Unit {0}
 AllBelow nodes (n ∷ ns) = (n < nodes) × AllBelow nodes ns
 
-along-visits : (nodes : ℕ) (cost : ℕ → ℕ) (ns : List ℕ) → AllBelow nodes ns → along cost ns ≡ sumOf nodes (λ n. visitsOf n ns * cost n)
+pub along-visits : (nodes : ℕ) (cost : ℕ → ℕ) (ns : List ℕ) → AllBelow nodes ns → along cost ns ≡ sumOf nodes (λ n. visitsOf n ns * cost n)
 along-visits nodes cost [] inside = sym (sum-equal nodes (λ n. 0 * cost n) (λ n. 0) (λ n h. zero-mul (cost n)) ∙ (omega (arith, sum-most nodes 0 (λ n. 0) (λ n h. zero-le))))
 along-visits nodes cost (k ∷ ns) inside =
     let rest = along-visits nodes cost ns (inside .1) in

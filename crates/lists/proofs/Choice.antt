@@ -9,7 +9,8 @@ use native.Mathlib.Omega.{arith}
 use native.Mathlib.Decide.{ℕ-discrete}
 use borrow.Author.Tests.{ltb-false, le-ltb}
 use lib.Dec.{ltb}
-use Rattle.lists.specs.Choice.{Case, _⇒_, firstCase, NoneApplies, FirstApplies, firstFrom, first, every}
+use Rattle.lists.specs.Choice.{Case, _⇒_, firstCase, NoneApplies, FirstApplies, firstFrom, first, every, everyOf}
+use Rattle.lists.specs.Lists.{Among}
 use Rattle.lists.specs.Answers.{everyAnswer}
 
 -- ---- two tests
@@ -219,3 +220,14 @@ every-same (suc n) one other h =
     let rest : every n one ≡ every n other = every-same n one other (λ i k. h i (omega arith)) in
     let here : one n ≡ other n = h n (omega arith) in
     rw (here, rest)
+
+-- ---- a test that every number of a list passes
+
+pub everyOf-all : (test : ℕ → Bool) (xs : List ℕ) → everyOf test xs ≡ true → (t : ℕ) → Among t xs → test t ≡ true
+everyOf-all test [] e t i = absurd i
+everyOf-all test (x ∷ xs) e t (inl q) = rw q (and-true (test x) (everyOf test xs) e .0)
+everyOf-all test (x ∷ xs) e t (inr i) = everyOf-all test xs (and-true (test x) (everyOf test xs) e .1) t i
+
+pub all-everyOf : (test : ℕ → Bool) (xs : List ℕ) → ((t : ℕ) → Among t xs → test t ≡ true) → everyOf test xs ≡ true
+all-everyOf test [] h = refl
+all-everyOf test (x ∷ xs) h = true-and (test x) (everyOf test xs) (h x (inl refl)) (all-everyOf test xs (λ t i. h t (inr i)))

@@ -41,3 +41,8 @@ first n test = firstFrom zero n test
 abbrev pub every : ℕ → (ℕ → Bool) → Bool
 every zero test = true
 every (suc n) test = every n test && test n
+
+-- Whether every number of a list does.
+abbrev pub everyOf : (ℕ → Bool) → List ℕ → Bool
+everyOf test [] = true
+everyOf test (x ∷ xs) = test x && everyOf test xs

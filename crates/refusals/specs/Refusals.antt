@@ -1,8 +1,8 @@
--- The refusals' numbers and places. Rule 11.0, with the numbers of rules 11.1 to 11.18.
+-- The refusals' numbers and places. Rule 11.0, with the numbers of rules 11.1 to 11.18 and 11.23 to 11.25; 19 to 22 are given by nothing yet.
 -- When each applies is not said here, but beside the function that gives it.
 use Prim.Native.Nat.{ℕ}
 use Rattle.refusals.specs.declared.Refusal.{Refusal}
-use Rattle.refusals.specs.declared.Refusal.the-variants.{TooShort, Edition, CacheShape, StartCode, NodeCount, EntryNode, SpareBits, Length, BrokenRecord, TooManyBlocks, ShortBuffer, Unsettled, NotPassing, BoundsLength, MissBelowHit, FloorAboveCeiling, FloorAtUnmarked, ImpossibleTimes}
+use Rattle.refusals.specs.declared.Refusal.the-variants.{TooShort, Edition, CacheShape, StartCode, NodeCount, EntryNode, SpareBits, Length, BrokenRecord, TooManyBlocks, ShortBuffer, Unsettled, NotPassing, BoundsLength, MissBelowHit, FloorAboveCeiling, FloorAtUnmarked, ImpossibleTimes, FactsLength, NumberOutOfRange, CertificateFails}
 
 -- Rule 11.0: each refusal's number, the place of its rule in section 11.
 abbrev pub numberOf : Refusal → ℕ
@@ -24,6 +24,9 @@ numberOf MissBelowHit = 15
 numberOf (FloorAboveCeiling node) = 16
 numberOf (FloorAtUnmarked node) = 17
 numberOf ImpossibleTimes = 18
+numberOf FactsLength = 23
+numberOf NumberOutOfRange = 24
+numberOf (CertificateFails node) = 25
 
 -- Rule 11.0: the node at fault, where a refusal has one, and else 0.
 abbrev pub placeOf : Refusal → ℕ
@@ -45,3 +48,6 @@ placeOf MissBelowHit = 0
 placeOf (FloorAboveCeiling node) = node
 placeOf (FloorAtUnmarked node) = node
 placeOf ImpossibleTimes = 0
+placeOf FactsLength = 0
+placeOf NumberOutOfRange = 0
+placeOf (CertificateFails node) = node

@@ -2,7 +2,7 @@
 ghost use mathlib.Core.Path.{_≡_};
 ghost use Rattle.refusals.specs.Refusals.{numberOf, placeOf};
 
-// The refusals in the order of rules 11.1 to 11.18; those that are a node's fault carry the node.
+// The refusals in the order of rules 11.1 to 11.18 and 11.23 to 11.25; those that are a node's fault carry the node. 19 to 22 are given by nothing yet.
 pub enum Refusal {
     TooShort,
     Edition,
@@ -22,10 +22,13 @@ pub enum Refusal {
     FloorAboveCeiling(usize),
     FloorAtUnmarked(usize),
     ImpossibleTimes,
+    FactsLength,
+    NumberOutOfRange,
+    CertificateFails(usize),
 }
 
 impl Refusal {
-    // The refusal's number, from 1 to 18 (rule 11.0).
+    // The refusal's number, 1 to 18 or 23 to 25 (rule 11.0).
     pub fn number(self) -> u64
         ensures { λ r. ⌜ r ≡ numberOf self ⌝ }
     {
@@ -48,6 +51,9 @@ impl Refusal {
             Refusal::FloorAboveCeiling(_) => 16,
             Refusal::FloorAtUnmarked(_) => 17,
             Refusal::ImpossibleTimes => 18,
+            Refusal::FactsLength => 23,
+            Refusal::NumberOutOfRange => 24,
+            Refusal::CertificateFails(_) => 25,
         }
     }
 
@@ -74,6 +80,9 @@ impl Refusal {
             Refusal::FloorAboveCeiling(node) => node,
             Refusal::FloorAtUnmarked(node) => node,
             Refusal::ImpossibleTimes => 0,
+            Refusal::FactsLength => 0,
+            Refusal::NumberOutOfRange => 0,
+            Refusal::CertificateFails(node) => node,
         }
     }
 }

@@ -1,4 +1,6 @@
 // The demands and the soundings, each claimed by a function whose promise is the claim itself: without its proof this program is not built.
+ghost use Rattle.demands.specs.Bounding.{Bounding};
+ghost use Rattle.demands.specs.Certified.{Certified};
 ghost use Rattle.demands.specs.Demand1.{Demand1};
 ghost use Rattle.demands.specs.Demand2.{Demand2};
 ghost use Rattle.demands.specs.Demand3.{Demand3};
@@ -26,6 +28,17 @@ pub(crate) fn says_so()
 // A deadline that is met is kept by the cost of every walk within the bounds, as a figure.
 pub(crate) fn kept_in_time()
     ensures { λ _. ⌜ OnTime ⌝ }
+{}
+
+// Any certificate gets a bound or a numbered refusal.
+pub(crate) fn bounds_anything()
+    ensures { λ _. ⌜ Bounding ⌝ }
+{}
+
+// No walk that keeps the facts costs more than the high bound, or less than the low one; and floors and ceilings, as facts, have the totals for
+// bounds.
+pub(crate) fn kept_within_bounds()
+    ensures { λ _. ⌜ Certified ⌝ }
 {}
 
 // What was written reads back, and what was read is written again.

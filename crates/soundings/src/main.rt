@@ -1,12 +1,14 @@
 // A program that runs the sounding of the totals: the loop chart is analysed, its table checked, its totals taken and held to a deadline. It reads
-// a record that writes, and stands on the proofs of the three demands, of deadlines, of the round trip and of the soundings. It takes no input, and
-// prints the same each time.
+// a record that writes, and stands on the proofs of the three demands, of deadlines, of certificates, of the round trip and of the soundings. It
+// takes no input, and prints the same each time.
 mod demanded;
 mod sounding;
 
 use crate::demanded::asked_anything;
+use crate::demanded::bounds_anything;
 use crate::demanded::comes_back;
 use crate::demanded::kept_in_time;
+use crate::demanded::kept_within_bounds;
 use crate::demanded::says_most;
 use crate::demanded::says_so;
 use crate::demanded::sounded;
@@ -113,6 +115,13 @@ fn print_demanded() {
     io::write_all(
         STDOUT_FILENO,
         b"that figures keep a met deadline is proved\n",
+    );
+    bounds_anything();
+    io::write_all(STDOUT_FILENO, b"when a certificate has a bound is proved\n");
+    kept_within_bounds();
+    io::write_all(
+        STDOUT_FILENO,
+        b"that walks that keep the facts keep within bounds is proved\n",
     );
     comes_back();
     io::write_all(STDOUT_FILENO, b"the round trip is proved\n");

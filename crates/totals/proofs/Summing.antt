@@ -115,7 +115,7 @@ module _ (columns plan : List ℕ) (lent : Lent) (classes before : List ℕ)
   second-class n h = listed (mostTouches * n + 1) (omega arith) ∙ second-listed held table n h
 
   -- What a visit of a node counts is what its two classes count.
-  visit-is : (rate : ℕ → ℕ) (n : ℕ) → n < nodesIn plan → classesCost rate classes n ≡ visitCost (classesAt held n) rate (cellAt table n)
+  pub visit-is : (rate : ℕ → ℕ) (n : ℕ) → n < nodesIn plan → classesCost rate classes n ≡ visitCost (classesAt held n) rate (cellAt table n)
   visit-is rate n h =
       let few : length (touchesIn held n) ≤ 2 = subst (λ (touches : List ColumnTouch). length touches ≤ 2) (sym (touches-held columns plan n h)) (few-touches (nodeIn plan n .what)) in
       (λ i. classCost rate (first-class n h i) + classCost rate (second-class n h i)) ∙ sym (node-cost rate held n few (cellAt table n))

@@ -7,7 +7,7 @@ ghost use lib.ListN.{length, getD};
 ghost use Rattle.lists.specs.Lists.{sumOf};
 ghost use Rattle.chart.specs.Geometry.{mostBlocks, mostTouches};
 ghost use Rattle.classes.specs.Class.{kept};
-ghost use Rattle.plan.specs.Listed.{nodesIn, blocksIn, nodeIn, DrawnIn, RecordIn};
+ghost use Rattle.plan.specs.Listed.{nodesIn, DrawnIn, RecordIn};
 ghost use Rattle.totals.specs.Charged.{setIf, chargedBy, chargedBlocks};
 use chart::Geometry;
 use plan::PlannedRecord;
@@ -59,12 +59,7 @@ fn sum_marks(charged: &[u8], count: usize) -> usize
 }
 
 // How many blocks have a touch with the class kept at a node whose ceiling is above 0.
-pub(crate) fn charged_blocks(
-    plan: &[u16],
-    columns: &[u8],
-    classes: &[u8],
-    ceilings: &[u16],
-) -> usize
+pub fn charged_blocks(plan: &[u16], columns: &[u8], classes: &[u8], ceilings: &[u16]) -> usize
     requires { ⌜ DrawnIn columns plan ⌝ }
     requires { ⌜ (mostTouches * nodesIn (now plan) ≤ length (now classes)) × (nodesIn (now plan) ≤ length (now ceilings)) ⌝ }
     ensures { λ r. ⌜ r ≡ chargedBlocks (now (plan .entry)) (now (classes .entry)) (now (ceilings .entry)) ⌝ }

@@ -10,11 +10,15 @@ ghost use Rattle.tables.specs.Contract.{entryTable, RoomFor};
 ghost use Rattle.totals.specs.Totals.{entryFigures, totalledBy, totals, totalsSay, totalSays};
 use crate::bounds::first_crossed;
 use crate::bounds::first_floor_at_unmarked;
-use crate::sums::Tariff;
 use crate::sums::sum_nodes;
+pub use charging::charged_blocks;
 use chart::Verdict;
 use checker::Checked;
 use refusals::Refusal;
+pub use sums::Tariff;
+pub use sums::charge;
+pub use sums::high_rate;
+pub use sums::low_rate;
 
 // The low and the high total, or a refusal.
 pub enum Totals {

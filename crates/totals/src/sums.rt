@@ -27,7 +27,7 @@ pub(crate) struct Sums {
 }
 
 // What the low total counts for a touch of this class: the miss cost for a miss, else the hit cost.
-fn low_rate(class: u8, tariff: Tariff) -> u16
+pub fn low_rate(class: u8, tariff: Tariff) -> u16
     ensures { λ r. ⌜ r ≡ lowRate (costsOf tariff) class ⌝ }
 {
     if class == classing::MISS {
@@ -38,7 +38,7 @@ fn low_rate(class: u8, tariff: Tariff) -> u16
 }
 
 // What the high total counts for it: the hit cost for a hit and for what is kept, else the miss cost.
-fn high_rate(class: u8, tariff: Tariff) -> u16
+pub fn high_rate(class: u8, tariff: Tariff) -> u16
     ensures { λ r. ⌜ r ≡ highRate (costsOf tariff) class ⌝ }
 {
     if (class == classing::HIT) | (class == classing::KEPT) {
@@ -90,7 +90,7 @@ fn sum_classes(
 }
 
 // What is charged once for each of so many blocks: the difference between a miss and a hit.
-fn charge(tariff: Tariff, blocks: usize) -> u64
+pub fn charge(tariff: Tariff, blocks: usize) -> u64
     requires { ⌜ (tariff .hit ≤ tariff .miss) × (blocks ≤ mostBlocks) ⌝ }
     ensures { λ r. ⌜ r ≡ (tariff .miss - tariff .hit) * blocks ⌝ }
 {

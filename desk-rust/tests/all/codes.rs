@@ -4,6 +4,7 @@ use crate::golden;
 use crate::json::read;
 use crate::trying::{chain, known, trouble};
 use desk::args::asked;
+use desk::fact::FACTS;
 use desk::input::input;
 use desk::totals::totals;
 use desk::trouble::Trouble;
@@ -58,6 +59,7 @@ fn troubles() -> Vec<Trouble> {
         troubles.extend(totals(&known(&bytes("texts", name)), None, None).err());
     }
     troubles.extend([chain(NODES + 1).as_bytes(), &[1]].map(trouble));
+    troubles.push(trouble((chain(1) + &"fact n0 <= 1\n".repeat(FACTS + 1)).as_bytes()));
     troubles.extend(asked(vec!["nonsense".into()]).err());
     troubles.extend(input("no/such/file".as_ref()).err());
     troubles

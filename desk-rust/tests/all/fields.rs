@@ -6,10 +6,11 @@ use reports::tree::text;
 use std::collections::BTreeSet;
 
 /// Calls whose answers have all fields that there are.
-const CALLS: [&str; 14] = [
+const CALLS: [&str; 15] = [
     "report charts/straddle.txt",
     "report charts/class-unreached.txt",
     "totals charts/loop.txt",
+    "totals charts/branch.txt",
     "why charts/loop.txt turn",
     "why charts/winch-as-built.txt depth",
     "chart charts/loop.txt -o loop.chart",

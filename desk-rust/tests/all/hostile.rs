@@ -43,7 +43,16 @@ const UNSEEN: [&str; 14] = [
 
 #[test]
 fn a_million_letters_on_a_line() {
-    let words = ["-> a ", "a: -> a, a ", "visits 1 ", "read 0 ", "1 "];
+    let words = [
+        "-> a ",
+        "a: -> a, a ",
+        "visits 1 ",
+        "read 0 ",
+        "1 ",
+        "fact a ",
+        "a + ",
+        "<= ",
+    ];
     let all: Vec<&str> = SIGNS.split(' ').chain(UNSEEN).chain(words).collect();
     each(&all, |piece| {
         let line = repeated(piece, MILLION);
@@ -58,7 +67,7 @@ fn a_million_letters_on_a_line() {
 }
 
 /// What a line can begin with, before each thing that can stand in it.
-const PLACES: [&str; 18] = [
+const PLACES: [&str; 26] = [
     "cache ",
     "cache line ",
     "cache line 16 start ",
@@ -77,6 +86,14 @@ const PLACES: [&str; 18] = [
     "a: -> b, c, ",
     "a: visits ",
     "a: visits 1..",
+    "fact ",
+    "fact 1 ",
+    "fact a + ",
+    "fact a <= ",
+    "fact a <= 1 ",
+    "loop ",
+    "loop a at most ",
+    "loop a at most 1 per ",
 ];
 
 #[test]
@@ -94,7 +111,7 @@ fn a_million_letters_at_every_place_of_a_line() {
 
 #[test]
 fn as_many_lines_as_there_is_room_for() {
-    let lines = "a|a:|1|:|at|->|é|entry a|cost hit 1 miss 1|at a=0|a: -> a, a|a: read b|cache line 16 sets 8 ways 2 start empty";
+    let lines = "a|a:|1|:|at|->|é|entry a|cost hit 1 miss 1|at a=0|a: -> a, a|a: read b|fact a<=1|fact b|loop a at most 1 per b|cache line 16 sets 8 ways 2 start empty";
     let lines: Vec<String> = lines.split('|').map(|line| format!("{line}\n")).collect();
     each(&lines, |line| {
         assert!(matches!(soon(repeated(line, MOST)), Tried::Faults(_)), "{line:?}");
@@ -110,7 +127,8 @@ fn as_many_lines_as_there_is_room_for() {
 /// Pieces of texts, apart by spaces; `;` stands for the end of a line.
 const PIECES: &str =
     "a b c : : -> -> , .. = + 0 1 0x10 16 8 4 2 size read write step visits cache line sets ways start \
-                      empty unknown cost hit miss entry at # é é: a: b: - _ 0x 1_0 ? ; ; ; ;a: ;b: ;c:";
+                      empty unknown cost hit miss entry at # é é: a: b: - _ 0x 1_0 ? ; ; ; ;a: ;b: ;c: fact loop most per <= >= < ;fact \
+                      ;fact ;loop";
 
 #[test]
 fn noise() {

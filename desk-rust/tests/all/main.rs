@@ -1,9 +1,13 @@
 //! The desk, tried: every message against its golden file, every command as it is called, texts of every kind, and its answers against those
 //! of the proved program. All in one program, since that is linked but once.
 
+mod certificates;
 mod charts_drawn;
 mod codes;
 mod colours;
+mod fact_lines;
+mod facts_attained;
+mod facts_drawn;
 mod faults;
 mod fields;
 mod folder;

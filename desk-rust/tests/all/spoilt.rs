@@ -33,6 +33,17 @@ a: read é + 4 size 1 -> b, a visits 0..9 # -
 b:
 ";
 
+/// The same of lines of facts.
+const FACTS: &str = "\
+cache line 16 sets 1 ways 1 start empty
+entry a
+a: -> b
+b: visits 0..9
+fact a - 0x2 b + a <= -3 # -
+fact b>=1
+loop b at most 2 per a
+";
+
 #[test]
 fn texts_that_are_cut_at_every_byte() {
     let texts = texts();
@@ -46,25 +57,28 @@ fn texts_that_are_cut_at_every_byte() {
 
 #[test]
 fn a_text_with_every_single_byte_changed_to_every_other() {
-    let places: Vec<usize> = (0..EVERY_LINE.len()).collect();
-    assert_eq!(tried(EVERY_LINE.as_bytes()), Tried::Answered);
-    each(&places, |place| {
-        let mut bytes = EVERY_LINE.as_bytes().to_vec();
-        for byte in 0..=u8::MAX {
-            bytes[*place] = byte;
-            tried(&bytes);
-        }
-    });
+    for text in [EVERY_LINE, FACTS] {
+        let places: Vec<usize> = (0..text.len()).collect();
+        assert_eq!(tried(text.as_bytes()), Tried::Answered);
+        each(&places, |place| {
+            let mut bytes = text.as_bytes().to_vec();
+            for byte in 0..=u8::MAX {
+                bytes[*place] = byte;
+                tried(&bytes);
+            }
+        });
+    }
 }
 
 #[test]
 fn texts_with_a_byte_put_in_or_left_out_at_every_place() {
-    let text = EVERY_LINE.as_bytes();
-    for place in 0..text.len() {
-        let (before, after) = text.split_at(place);
-        tried(&[before, &after[1..]].concat());
-        for byte in b"\0\t\n\r #':,=+->.0_ax" {
-            tried(&[before, &[*byte], after].concat());
+    for text in [EVERY_LINE, FACTS].map(str::as_bytes) {
+        for place in 0..text.len() {
+            let (before, after) = text.split_at(place);
+            tried(&[before, &after[1..]].concat());
+            for byte in b"\0\t\n\r #':,=+-><.0_ax" {
+                tried(&[before, &[*byte], after].concat());
+            }
         }
     }
 }

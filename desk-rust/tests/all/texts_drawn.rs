@@ -4,7 +4,10 @@ use crate::layout::{address as written, laid_out, number, Line};
 use crate::names_drawn::{names, stem};
 use charts::random::Random;
 use charts::{Chart, Header, Record};
+use desk::fact::{Fact, Saying};
 use desk::known::{Known, Visits};
+use desk::source::Span;
+use std::collections::BTreeMap;
 use veilbuzz::Costs;
 
 /// A text, and what it says beside the chart.
@@ -15,12 +18,23 @@ pub struct Drawn {
     costs: Option<Costs>,
     /// Whether each node's address is told by a name.
     named: Vec<bool>,
+    facts: Vec<Saying>,
 }
 
 impl Drawn {
     /// Holds what the desk made of the text to what it says.
     pub fn expect(&self, known: &Known) {
         assert_eq!(known.costs, self.costs, "{}", self.text);
+        assert_eq!(known.facts.len(), self.facts.len(), "{}", self.text);
+        let said = |saying: &Saying| (saying.at_most.clone(), saying.at_least.clone());
+        // lines may stand in any order
+        for saying in &self.facts {
+            assert!(
+                known.facts.iter().any(|known| said(known) == said(saying)),
+                "{}",
+                self.text
+            );
+        }
         for (number, node) in known.nodes.iter().enumerate() {
             assert_eq!(node.name, self.names[number], "{}", self.text);
             assert_eq!(node.visits, self.visits[number], "{}", self.text);
@@ -46,12 +60,14 @@ pub fn drawn(random: &mut Random, chart: &Chart) -> Drawn {
         said.lines.push(line);
     }
     said.others(random, chart.header, &names, costs);
+    let facts = said.facts(random, &names);
     Drawn {
         text: laid_out(random, &said.lines),
         names,
         visits,
         costs,
         named: said.named,
+        facts,
     }
 }
 
@@ -86,6 +102,34 @@ fn visited(random: &mut Random, visits: Option<Visits>, line: &mut Line) {
             line.extend(["..".into(), number(random, ceiling.into())]);
         }
     }
+}
+
+fn fact(random: &mut Random, names: &[String]) -> (Line, Saying) {
+    let mut line: Line = vec!["fact".into()];
+    let mut coefficients: BTreeMap<usize, i64> = BTreeMap::new();
+    for term in 0..random.within(1, 4) {
+        let (node, times) = (random.below(names.len() as u64) as usize, random.below(1 << 20));
+        let minus = random.once_in(2);
+        line.extend((minus || term > 0).then(|| if minus { "-" } else { "+" }.into()));
+        let single = times == 1 && random.once_in(2);
+        line.extend((!single).then(|| number(random, times)));
+        line.push(names[node].clone());
+        *coefficients.entry(node).or_default() += if minus { -(times as i64) } else { times as i64 };
+    }
+    coefficients.retain(|_, times| *times != 0);
+    let (sign, minus, limit) = (random.below(3), random.once_in(3), random.below((1 << 24) + 1));
+    line.push(["<=", ">=", "="][sign as usize].into());
+    line.extend(minus.then(|| "-".into()));
+    line.push(number(random, limit));
+    let limit = if minus { -(limit as i64) } else { limit as i64 };
+    let at_most = Fact { coefficients, limit };
+    let saying = Saying {
+        span: Span { start: 0, end: 0 },
+        visits_of: None,
+        at_least: (sign != 0).then(|| at_most.turned()),
+        at_most: (sign != 1).then_some(at_most),
+    };
+    (line, saying)
 }
 
 /// What a text says so far.
@@ -143,6 +187,18 @@ impl Said {
         let name = format!("{}{}", stem(random), self.addresses.len());
         self.addresses.push((name.clone(), *base));
         name
+    }
+
+    /// Lines of facts, anywhere, and what they say.
+    fn facts(&mut self, random: &mut Random, names: &[String]) -> Vec<Saying> {
+        let mut facts = vec![];
+        for _ in 0..random.below(3) {
+            let (line, saying) = fact(random, names);
+            let place = random.below(self.lines.len() as u64 + 1) as usize;
+            self.lines.insert(place, line);
+            facts.push(saying);
+        }
+        facts
     }
 
     /// The lines that are no nodes', anywhere among those of the nodes, which stay in their order.

@@ -73,7 +73,9 @@ fn answers(known: &Known) {
     let report = report(known).unwrap_or_else(|trouble| panic!("{}", trouble.words()));
     let classes = read(&report.json().to_string()).at("nodes").list().len();
     assert_eq!(classes, known.nodes.len());
-    if let Err(trouble) = totals(known, Some(1), Some(10)) {
+    // facts are for glpsol, which is not run for each of very many texts
+    let plain = known.facts.is_empty().then(|| totals(known, Some(1), Some(10)));
+    if let Some(Err(trouble)) = plain {
         assert!(matches!(trouble, Trouble::Unanswered { .. } | Trouble::Text(..)));
         assert!(trouble.words().ends_with('\n'));
     }

@@ -15,10 +15,11 @@ pub enum Function {
     Blocks = 6,
     Write = 7,
     Deadline = 8,
+    Bound = 9,
 }
 
 impl Function {
-    pub const ALL: [Function; 8] = [
+    pub const ALL: [Function; 9] = [
         Function::Read,
         Function::Analyse,
         Function::Check,
@@ -27,6 +28,7 @@ impl Function {
         Function::Blocks,
         Function::Write,
         Function::Deadline,
+        Function::Bound,
     ];
 }
 

@@ -25,7 +25,7 @@ macro_rules! element {
     )*};
 }
 
-element!(u8, u16, u32, u64);
+element!(u8, u16, u32, u64, i64);
 
 /// All elements as bytes, one after the other.
 pub fn flat<T: Element>(elements: &[T]) -> Vec<u8> {

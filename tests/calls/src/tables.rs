@@ -53,7 +53,7 @@ fn table(random: &mut Random, bytes: &[u8], chart: &Chart, turns: u64) -> Lendin
         table.may.fill(0);
         table.marks.fill(1);
     }
-    if !random.once_in(6) {
+    if !random.once_in(4) {
         spoil(random, &mut table, chart.ways());
     }
     table

@@ -7,7 +7,7 @@ use second::chart::Chart;
 use std::collections::BTreeMap;
 
 /// As many as the run under valgrind has, the shortest of all.
-const CASES: u64 = 50_000;
+const CASES: u64 = 60_000;
 
 fn cases() -> impl Iterator<Item = Case> {
     (0..CASES).map(|number| calls::case(SEED, number))
@@ -23,7 +23,7 @@ fn tally<K: Ord>(keys: impl Iterator<Item = K>) -> BTreeMap<K, usize> {
 }
 
 /// Which numbers each function returns: 0 and its refusals.
-const RETURNED: [(Function, &[u64]); 8] = [
+const RETURNED: [(Function, &[u64]); 9] = [
     (Function::Read, &[0, 1, 2, 3, 4, 5, 6, 7, 8, 9, 10, 11]),
     (Function::Analyse, &[0, 1, 2, 3, 4, 5, 6, 7, 8, 9, 10, 11, 12]),
     (Function::Check, &[0, 1, 2, 3, 4, 5, 6, 7, 8, 9, 10, 11]),
@@ -37,6 +37,10 @@ const RETURNED: [(Function, &[u64]); 8] = [
     (
         Function::Deadline,
         &[0, 1, 2, 3, 4, 5, 6, 7, 8, 9, 10, 11, 13, 14, 15, 16, 17, 18],
+    ),
+    (
+        Function::Bound,
+        &[0, 1, 2, 3, 4, 5, 6, 7, 8, 9, 10, 11, 13, 15, 23, 24, 25],
     ),
 ];
 
@@ -69,7 +73,7 @@ fn each_function_refuses(least: usize, fault: fn([u8; 8], usize) -> bool) {
     };
     let refused = cases().filter(|case| case.returned == 9 && faulty(case));
     let met = tally(refused.map(|case| case.function));
-    assert!(met.len() == 7 && met.values().all(|&times| times >= least), "{met:?}");
+    assert!(met.len() == 8 && met.values().all(|&times| times >= least), "{met:?}");
 }
 
 #[test]
@@ -83,7 +87,7 @@ fn each_function_refuses_a_record_for_its_size() {
 }
 
 /// The buffers that refusal 11 speaks of, by their places among the parameters.
-const REFUSED_IF_SHORT: [(Function, &[usize]); 8] = [
+const REFUSED_IF_SHORT: [(Function, &[usize]); 9] = [
     (Function::Read, &[1, 2]),
     (Function::Analyse, &[1, 2, 3, 4, 5, 6]),
     (Function::Check, &[1, 2, 3, 4]),
@@ -92,6 +96,7 @@ const REFUSED_IF_SHORT: [(Function, &[usize]); 8] = [
     (Function::Blocks, &[1, 2]),
     (Function::Write, &[6, 7]),
     (Function::Deadline, &[1, 2, 3, 6, 7]),
+    (Function::Bound, &[1, 2, 3, 8]),
 ];
 
 #[test]
@@ -151,6 +156,7 @@ fn each_buffer_of_an_accepted_call_is_longer_just_right_and_empty() {
         Function::Total,
         Function::Blocks,
         Function::Deadline,
+        Function::Bound,
     ] {
         let times = met.get(&(function, 1, "empty")).copied().unwrap_or(0);
         assert!(times >= 5, "buffer 1 of {function:?} is empty only {times} times");
@@ -173,6 +179,7 @@ fn each_buffer_is_empty_and_then_lent_as_no_memory_at_all() {
         (Function::Blocks, 3),
         (Function::Write, 8),
         (Function::Deadline, 8),
+        (Function::Bound, 9),
     ] {
         for place in 0..buffers {
             let times = met.get(&(function, place)).copied().unwrap_or(0);
@@ -186,7 +193,7 @@ fn a_call_without_room_for_its_answer_is_11_whatever_else_is_lent() {
     let short = |case: &Case| case.lists().iter().any(calls::Buffer::is_short);
     let met = tally(cases().filter(short).map(|case| (case.function, case.returned)));
     assert_eq!(met.keys().filter(|key| key.1 != 11).count(), 0);
-    assert!(met.len() == 8 && met.values().all(|&times| times >= 500), "{met:?}");
+    assert!(met.len() == 9 && met.values().all(|&times| times >= 500), "{met:?}");
 }
 
 #[test]
@@ -208,6 +215,7 @@ fn lists_of_numbers_have_0_to_10_places() {
         (Function::Write, 7),
         (Function::Deadline, 6),
         (Function::Deadline, 7),
+        (Function::Bound, 8),
     ];
     for (function, place) in lists {
         for length in 0..=10 {

@@ -71,7 +71,7 @@ fn totals_of(case: &Case) -> Option<Totals> {
 /// All calls, made once for all tests.
 fn all_asked() -> impl Iterator<Item = &'static Asked> {
     static ALL: OnceLock<Vec<Asked>> = OnceLock::new();
-    let all = || (0..50_000).map(|number| calls::case(SEED, number));
+    let all = || (0..60_000).map(|number| calls::case(SEED, number));
     let deadlines = || all().filter(|case| case.function == Function::Deadline);
     ALL.get_or_init(|| deadlines().map(|case| asked(&case)).collect())
         .iter()

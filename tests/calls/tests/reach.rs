@@ -10,7 +10,7 @@ use second::lent::Lent;
 use second::limits::{BLOCKS, PASSES, TOUCHES};
 
 fn cases() -> impl Iterator<Item = Case> {
-    (0..50_000).map(|number| calls::case(SEED, number))
+    (0..60_000).map(|number| calls::case(SEED, number))
 }
 
 #[test]
@@ -39,8 +39,8 @@ fn touches_of_what_is_analysed_have_every_class() {
     assert!(times.as_flattened().iter().all(|&times| times >= 100), "{times:?}");
 }
 
-/// Whether the table of a call to the totals or the deadline calls a touch kept at a ceiling above 0, at a node that a walk reaches, and at
-/// one that it marks and no walk reaches.
+/// Whether the table of a call calls a touch kept where it is paid for, at a node that a walk reaches, and at one that it marks and no walk
+/// reaches. The totals and the deadline pay at a ceiling above 0.
 fn keeps(case: &Case) -> [bool; 2] {
     let bytes = case.buffers[0].elements::<u8>();
     let chart = Chart::read(&bytes).expect("the chart is accepted");
@@ -54,7 +54,7 @@ fn keeps(case: &Case) -> [bool; 2] {
     };
     let (kept, ceilings) = (Kept::of(&chart), case.buffers[5].elements::<u16>());
     let mut keeps = [false; 2];
-    for node in (0..chart.nodes.len()).filter(|&node| ceilings[node] > 0) {
+    for node in (0..chart.nodes.len()).filter(|&node| case.function == Function::Bound || ceilings[node] > 0) {
         keeps[usize::from(own.marks[node] == 0)] |= Class::of(&chart, lent, &kept, node).contains(&Class::Kept);
     }
     keeps
@@ -72,10 +72,11 @@ fn kept_times(function: Function) -> [usize; 2] {
 }
 
 #[test]
-fn totals_and_deadlines_pay_for_kept_touches_also_where_no_walk_comes() {
-    let [totals, deadlines] = [Function::Total, Function::Deadline].map(kept_times);
+fn totals_deadlines_and_bounds_pay_for_kept_touches_also_where_no_walk_comes() {
+    let [totals, deadlines, bounds] = [Function::Total, Function::Deadline, Function::Bound].map(kept_times);
     assert!(totals[0] >= 500 && totals[1] >= 20, "{totals:?}");
     assert!(deadlines[0] >= 500 && deadlines[1] >= 10, "{deadlines:?}");
+    assert!(bounds[0] >= 500 && bounds[1] >= 10, "{bounds:?}");
 }
 
 #[test]

@@ -7,7 +7,7 @@ use charts::twins::twins_alone;
 use charts::Record;
 
 fn cases_of(function: Function) -> impl Iterator<Item = Case> {
-    (0..50_000)
+    (0..60_000)
         .map(|number| calls::case(SEED, number))
         .filter(move |case| case.function == function)
 }

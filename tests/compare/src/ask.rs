@@ -5,14 +5,18 @@ use crate::given::Given;
 use crate::given_lent::LentGiven;
 use crate::guarded::Guarded;
 use crate::lent::Lent;
+use crate::lent_claim::LentClaim;
+use crate::raw_bound::Basis;
 use crate::raw_deadline::Asked;
 use crate::same::{same, Held};
 use crate::sheet::Sheet;
 use crate::table::LentTable;
 use crate::tally::{Tally, ANSWER};
 use charts::random::Random;
+use charts::Claim;
+use second::certificate;
 use second::deadline::Deadline as Second;
-use veilbuzz::{Bounds, ClockSheet, Costs, Deadline, Fields, Header, Refusal, Settled, Totals, Unsettled};
+use veilbuzz::{Bounds, ClockSheet, Costs, Deadline, Fields, Header, Refusal, Settled, Side, Totals, Unsettled};
 
 /// Counts an answer of a function by the number of its refusal, 0 for none.
 fn counted<T>(tally: &mut Tally, function: &'static str, answer: &Result<T, Refusal>) {
@@ -158,4 +162,26 @@ pub fn deadline(asked: &Asked, sheet: Sheet, expected: Result<Timed, Refusal>) -
         met: judged.met,
     });
     same("deadline", &answer, &expected).map_err(|words| format!("{words}, of {:?}, {sheet:?}", asked.totals))
+}
+
+/// Of a side that there is not the wrapper cannot be asked.
+pub fn bound(
+    tally: &mut Tally,
+    basis: &Basis,
+    claim: &Claim,
+    lent: &LentClaim,
+    expected: Result<u64, Refusal>,
+) -> Held {
+    let side = match claim.side() {
+        None => return Ok(()),
+        Some(certificate::Side::High) => Side::High,
+        Some(certificate::Side::Low) => Side::Low,
+    };
+    let (table, before) = (basis.table.to_archive(), lent.clone());
+    let answer = veilbuzz::bound(basis.chart, table, basis.costs, side, lent.facts(), lent.certificate());
+    same("bound", &answer, &expected)
+        .and_then(|()| lent.same(&before))
+        .map_err(|words| format!("{words}, of {:?}, {claim:?}, {table:?}", basis.costs))?;
+    tally.add(ANSWER);
+    Ok(())
 }

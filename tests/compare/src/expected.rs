@@ -4,12 +4,14 @@ use crate::given::Given;
 use crate::lent::Lent;
 use crate::sheet::Sheet;
 use crate::table::LentTable;
+use charts::Claim;
 use second::analysis::{self, Analysed};
 use second::blocks;
 use second::cache;
 use second::chart::Chart;
 use second::checker;
 use second::deadline;
+use second::grounds::Grounds;
 use second::header;
 use second::node;
 use second::record::RecordFields;
@@ -77,11 +79,15 @@ pub fn check(bytes: &[u8], table: &LentTable) -> Result<bool, Refusal> {
     checker::check(bytes, table.to_second()).map_err(refusal)
 }
 
-pub fn total(bytes: &[u8], table: &LentTable, costs: Costs, bounds: Bounds) -> Result<Totals, Refusal> {
-    let costs = cache::Costs {
+fn second_costs(costs: Costs) -> cache::Costs {
+    cache::Costs {
         hit: costs.hit,
         miss: costs.miss,
-    };
+    }
+}
+
+pub fn total(bytes: &[u8], table: &LentTable, costs: Costs, bounds: Bounds) -> Result<Totals, Refusal> {
+    let costs = second_costs(costs);
     let bounds = totals::Bounds {
         floors: bounds.floors,
         ceilings: bounds.ceilings,
@@ -111,4 +117,15 @@ pub fn deadline(totals: Result<Totals, Refusal>, sheet: Sheet) -> Result<Timed, 
         figures: [judged.low.bits(), judged.high.bits()],
         met: judged.met,
     })
+}
+
+/// What a bound goes by, or what it is refused for, whatever it is asked with.
+pub fn grounds(bytes: &[u8], table: &LentTable, costs: Costs) -> Result<Grounds, Refusal> {
+    Grounds::of(bytes, table.to_second(), second_costs(costs)).map_err(refusal)
+}
+
+/// The bound of a claim there.
+pub fn bound(grounds: &Result<Grounds, Refusal>, claim: &Claim) -> Result<u64, Refusal> {
+    let grounds = grounds.as_ref().map_err(|&refusal| refusal)?;
+    claim.bound(grounds).map_err(refusal)
 }

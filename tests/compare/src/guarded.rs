@@ -74,3 +74,8 @@ pub fn word(number: u64) -> u32 {
 pub fn long(number: u64) -> u64 {
     number
 }
+
+/// A number of either sign, and of any size.
+pub fn signed(number: u64) -> i64 {
+    number.wrapping_mul(0x9E37_79B9_7F4A_7C15) as i64
+}

@@ -3,6 +3,7 @@
 use crate::apart::node_and_blocks;
 use crate::ask;
 use crate::bounds::Question;
+use crate::bounds_asked;
 use crate::crowds;
 use crate::deadlines;
 use crate::draw;
@@ -26,6 +27,9 @@ use veilbuzz::{Header, PASSES, TOUCHES};
 
 /// How many clock sheets and deadlines each question to the totals is asked with too.
 const SHEETS: usize = 2;
+
+/// How many claims a share of these questions is asked for bounds with.
+const CLAIMS: usize = 4;
 
 /// How many faults the totals were asked with at once.
 pub const FAULTS: &str = "faults of a question to the totals";
@@ -66,6 +70,9 @@ fn refused(random: &mut Random, tally: &mut Tally, chart: &[u8]) -> Held {
         totals,
     };
     deadlines::draw(random, tally, &asked, 1)?;
+    if bounds_asked::asked_for(random, nodes) {
+        bounds_asked::draw(random, tally, &asked, nodes, 1)?;
+    }
     if random.once_in(4) {
         raw::analyse(random, tally, chart, PASSES, &lent)?;
         raw::check(random, tally, chart, &table)?;
@@ -187,6 +194,9 @@ fn question(random: &mut Random, tally: &mut Tally, bytes: &[u8], chart: &Chart,
         totals,
     };
     deadlines::draw(random, tally, &asked, SHEETS)?;
+    if bounds_asked::asked_for(random, chart.nodes.len()) {
+        bounds_asked::draw(random, tally, &asked, chart.nodes.len(), CLAIMS)?;
+    }
     if random.once_in(4) {
         raw::total(random, tally, bytes, &table, question.costs, &bounds)?;
     }

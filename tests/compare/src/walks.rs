@@ -1,13 +1,17 @@
-//! Random walks through the plain cache, held to the archive's classes, ages, totals and deadlines.
+//! Random walks through the plain cache, held to the archive's classes, ages, totals, deadlines and bounds.
 
 use crate::ask::{self, LentBounds};
 use crate::bounds::{costs, Question};
+use crate::bounds_asked;
+use crate::expected;
 use crate::lent::Lent;
 use crate::paid::{pay, Paid};
+use crate::raw_bound::Basis;
 use crate::raw_deadline::Asked;
 use crate::same::{holds, Held};
 use crate::table::{LentTable, Table};
 use crate::tally::Tally;
+use crate::walk_bounds;
 use crate::walk_times::WalkTimes;
 use charts::random::Random;
 use second::cache::Cache;
@@ -133,6 +137,16 @@ pub fn hold(
                 totals: Ok(within),
             };
             times.hold(random, tally, &asked)?;
+        }
+        if bounds_asked::asked_for(random, chart.nodes.len()) {
+            let grounds = expected::grounds(bytes, &table, costs);
+            let basis = Basis {
+                chart: bytes,
+                table: &table,
+                costs,
+                grounds: &grounds,
+            };
+            walk_bounds::hold(random, tally, &basis, &visits, paid)?;
         }
     }
     times.end(tally)

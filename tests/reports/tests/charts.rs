@@ -66,8 +66,8 @@ fn the_readme_tells_each_report() {
         let name = row[0].trim_matches('`');
         let told = row.last().expect("a row has cells");
         let expected = match name {
-            // winch.rs holds the page to these two
-            "winch-as-built" | "winch-swapped" => "below".to_string(),
+            // winch.rs holds the page to these
+            "winch-as-built" | "winch-facts" | "winch-swapped" => "below".to_string(),
             _ => words(&report(name)).join(", "),
         };
         assert_eq!(*told, expected, "{name}");

@@ -48,15 +48,14 @@ fn the_page_of_must_fail_edits_has_each_edit_and_no_other() {
 }
 
 #[test]
-fn the_readme_shows_what_the_example_of_a_deadline_prints() {
-    let shown: String = text("examples/deadline.stdout")
-        .lines()
-        .map(|line| format!("    {line}\n"))
-        .collect();
-    assert!(
-        text("README.md").contains(&shown),
-        "README.md does not show these lines:\n{shown}"
-    );
+fn the_readme_shows_what_the_examples_of_a_deadline_and_a_bound_print() {
+    for printed in ["examples/deadline.stdout", "examples/bound.stdout"] {
+        let shown: String = text(printed).lines().map(|line| format!("    {line}\n")).collect();
+        assert!(
+            text("README.md").contains(&shown),
+            "README.md does not show these lines:\n{shown}"
+        );
+    }
 }
 
 #[test]

@@ -12,7 +12,10 @@ const RULES: &str = "docs/RULES.md";
 const TRACE: &str = "docs/TRACE.md";
 
 /// How many rules each section has at least: a number belongs to its rule for good.
-const AT_LEAST: [usize; 16] = [4, 12, 4, 7, 3, 7, 9, 2, 6, 4, 18, 9, 3, 4, 6, 8];
+const AT_LEAST: [usize; 18] = [4, 12, 4, 7, 3, 7, 9, 2, 6, 4, 22, 9, 3, 4, 6, 8, 6, 10];
+
+/// The numbers of refusals that nothing gives yet: they are passed over in section 11.
+const FREE: std::ops::RangeInclusive<usize> = 19..=22;
 
 /// All rules, in their order.
 fn rules() -> Vec<Rule> {
@@ -132,7 +135,9 @@ fn the_rules_of_a_section_are_numbered_without_a_gap() {
         // refusals are numbered from 1, and a rule of all of them goes before
         let first = if section.number == 11 { 0 } else { 1 };
         let there: Vec<String> = section.rules().iter().map(|rule| rule.number.to_string()).collect();
-        let wanted: Vec<String> = (first..first + there.len())
+        let wanted: Vec<String> = (first..)
+            .filter(|place| section.number != 11 || !FREE.contains(place))
+            .take(there.len())
             .map(|place| format!("{}.{place}", section.number))
             .collect();
         assert_eq!(there, wanted, "section {} of {RULES}", section.number);
@@ -193,6 +198,8 @@ fn the_numbers_of_an_example_stand_in_the_soundings() {
     let sounded: Vec<String> = [
         "demands/specs/Charts",
         "demands/specs/Examples",
+        "demands/specs/Certifying",
+        "demands/specs/Varied",
         "demands/specs/Soundings",
         "writer/specs/Sounded",
     ]

@@ -44,6 +44,11 @@ fn the_two_charts_differ_in_sets_and_ways_alone() {
     let (mut built, swapped) = (chart("winch-as-built"), chart("winch-swapped"));
     assert_eq!((built[1], built[2]), (0x43, 0x20));
     assert_eq!((swapped[1], swapped[2]), (0x41, 0x80));
+    // facts are no part of a chart of bytes
+    assert_eq!(
+        (chart("winch-facts"), report("winch-facts")),
+        (built.clone(), report("winch-as-built"))
+    );
     built[1..3].copy_from_slice(&swapped[1..3]);
     assert_eq!(built, swapped);
 }

@@ -1,3 +1,4 @@
+use crate::cache::Costs;
 use crate::chart::Chart;
 use crate::kept::Kept;
 use crate::lent::Lent;
@@ -50,6 +51,17 @@ impl Class {
             Class::Kept
         } else {
             Class::Unsure
+        }
+    }
+
+    /// What a touch that is called so counts in the low and in the high total, beside what a block pays once for its kept ones (rules 10.2
+    /// and 10.3).
+    pub fn costs(self, costs: Costs) -> (u16, u16) {
+        match self {
+            Class::Unreached | Class::None => (0, 0),
+            Class::Hit | Class::Kept => (costs.hit, costs.hit),
+            Class::Miss => (costs.miss, costs.miss),
+            Class::Unsure => (costs.hit, costs.miss),
         }
     }
 }

@@ -3,12 +3,13 @@ use crate::cache::Costs;
 use crate::checker::check;
 use crate::clock::ClockSheet;
 use crate::deadline::{deadline, Deadline, Judged};
+use crate::grounds::Grounds;
 use crate::lent::Lent;
 use crate::limits::{BLOCKS, NODES, TOUCHES};
 use crate::refusal::Refusal;
 use crate::totals::{totals, Bounds, Totals};
 
-/// Buffers of one's own, to lend to an analysis, to the checker, to the totals or to the deadline.
+/// Buffers of one's own, to lend to an analysis, to the checker, to the totals, to the deadline or for a bound.
 #[derive(Clone, Debug, PartialEq, Eq)]
 pub struct Lending {
     pub blocks: Vec<u32>,
@@ -72,5 +73,10 @@ impl Lending {
         asked: Option<Deadline>,
     ) -> Result<Judged, Refusal> {
         deadline(chart, self.lent(), costs, bounds, sheet, asked)
+    }
+
+    /// What a bound goes by beside facts and a certificate.
+    pub fn grounds(&self, chart: &[u8], costs: Costs) -> Result<Grounds, Refusal> {
+        Grounds::of(chart, self.lent(), costs)
     }
 }

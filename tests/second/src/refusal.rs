@@ -1,6 +1,6 @@
 use std::fmt;
 
-/// One of rules 11.1 to 11.18: its number, and the place that it names.
+/// One of the refusals of section 11 of the rules: its number, and the place that it names.
 #[derive(Clone, Copy, Debug, PartialEq, Eq)]
 pub struct Refusal {
     pub number: usize,

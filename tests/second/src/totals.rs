@@ -61,16 +61,8 @@ fn sums(chart: &Chart, lent: Lent, costs: Costs, bounds: Bounds) -> Totals {
     for (number, node) in chart.nodes.iter().enumerate() {
         let (floor, ceiling) = (bounds.floors[number], bounds.ceilings[number]);
         for (m, class) in node.touched().zip(Class::of(chart, lent, &kept, number)) {
-            let (least, most) = match class {
-                Class::Unreached | Class::None => continue,
-                Class::Hit => (costs.hit, costs.hit),
-                Class::Miss => (costs.miss, costs.miss),
-                Class::Kept => {
-                    loaded[m] |= ceiling > 0;
-                    (costs.hit, costs.hit)
-                }
-                Class::Unsure => (costs.hit, costs.miss),
-            };
+            let (least, most) = class.costs(costs);
+            loaded[m] |= class == Class::Kept && ceiling > 0;
             totals.low += u64::from(floor) * u64::from(least);
             totals.high += u64::from(ceiling) * u64::from(most);
         }

@@ -1,4 +1,7 @@
-//! What the totals are asked with, and the deadline, which is of the totals.
+//! What the totals are asked with, and the deadline, which is of the totals; a bound is asked with all but floors and ceilings.
+
+// each file of tests has this as its own, and not each uses all of it
+#![allow(dead_code)]
 
 use crate::lent::{chart, Lent};
 use veilbuzz::{Bounds, Costs};

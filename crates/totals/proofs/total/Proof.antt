@@ -6,7 +6,8 @@ use Rattle.costs.specs.Costs.{Figures}
 use Rattle.tables.specs.Lent.{Lent}
 use Rattle.refusals.proofs.Saying.{says-too}
 use Rattle.totals.specs.Totals.{totals, totalsSay}
-use Rattle.totals.proofs.Totalled.{short-totals, no-totals, yes-totals, passing-roomy}
+use Rattle.checker.proofs.Tabled.{passing-roomy}
+use Rattle.totals.proofs.Totalled.{short-totals, no-totals, yes-totals}
 use Rattle.totals.proofs.total.Statement.{statement}
 use Rattle.totals.proofs.total.Tie as tie
 

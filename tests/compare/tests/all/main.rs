@@ -3,6 +3,11 @@
 
 mod allowances;
 mod apart;
+mod bound_edges;
+mod bound_faults;
+mod bound_laws;
+mod bound_lists;
+mod bounds_drawn;
 mod buffers;
 mod counts;
 mod deadline_lists;
@@ -21,12 +26,14 @@ mod one_read;
 mod overlapping;
 mod paid;
 mod random;
+mod random_bounds;
 mod random_deadlines;
 mod random_written;
 mod records;
 mod straddles;
 mod tables;
 mod totals;
+mod turning;
 mod written;
 mod written_faults;
 mod written_lengths;

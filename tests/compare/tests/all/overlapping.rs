@@ -1,7 +1,9 @@
 //! What is only read may overlap: one buffer lent twice.
 
 use charts::{Chart, Record};
-use veilbuzz::{check, total, write, Bounds, Costs, Heading, NodeLists, Table, Totals};
+use veilbuzz::{
+    bound, check, total, write, Bounds, Certificate, Costs, Facts, Heading, NodeLists, Side, Table, Totals,
+};
 
 /// From an empty cache of two ways a single read misses: both its ages are 2.
 const AGES: [u8; 1] = [2];
@@ -33,6 +35,24 @@ fn floors_and_ceilings_in_one_buffer() {
     };
     let answer = total(&chart(), table(), Costs { hit: 1, miss: 10 }, bounds);
     assert_eq!(answer, Ok(Totals { low: 70, high: 70 }));
+}
+
+#[test]
+fn facts_and_certificate_in_one_buffer() {
+    let ten = [10];
+    let facts = Facts {
+        coefficients: &ten,
+        limits: &ten,
+    };
+    let certificate = Certificate {
+        multipliers: &ten,
+        potentials: &ten,
+        denominator: 1,
+    };
+    // a visit costs 10 and is left with 10 less 100; Z is the potential, and 10 times the limit
+    let costs = Costs { hit: 1, miss: 10 };
+    let answer = bound(&chart(), table(), costs, Side::High, facts, certificate);
+    assert_eq!(answer, Ok(10 + 100));
 }
 
 #[test]

@@ -1,5 +1,6 @@
 //! Random charts, whole and damaged, through everything.
 
+use crate::random_bounds;
 use crate::random_deadlines;
 use crate::random_written;
 use charts::random_edges::{EDGES, NODE_EDGES};
@@ -51,6 +52,7 @@ fn the_archive_and_the_second_program_agree_on_random_charts() {
         expect_lent(&tally);
         random_written::expect(&tally);
         random_deadlines::expect(&tally);
+        random_bounds::expect(&tally);
     }
 }
 

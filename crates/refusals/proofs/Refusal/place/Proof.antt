@@ -56,6 +56,15 @@ enum-known-self-4 c = search needs
 enum-told-14 : tie.Need-enum-told-14
 enum-told-14 c = search needs
 
+enum-told-15 : tie.Need-enum-told-15
+enum-told-15 c = search needs
+
+enum-told-16 : tie.Need-enum-told-16
+enum-told-16 c = search needs
+
+enum-known-self-5 : tie.Need-enum-known-self-5
+enum-known-self-5 c = search needs
+
 returns : tie.Need-returns
 returns c = rw (c .enum-told .given .1)
 
@@ -110,6 +119,15 @@ returns-17 c = rw (c .before .self4 .given .1)
 returns-18 : tie.Need-returns-18
 returns-18 c = rw (c .enum-told14 .given .1)
 
+returns-19 : tie.Need-returns-19
+returns-19 c = rw (c .enum-told15 .given .1)
+
+returns-20 : tie.Need-returns-20
+returns-20 c = rw (c .enum-told16 .given .1)
+
+returns-21 : tie.Need-returns-21
+returns-21 c = rw (c .before .self5 .given .1)
+
 pub place-spec : {M : Type 1} → statement M
 place-spec =
     tie.close
@@ -132,6 +150,9 @@ place-spec =
     enum-known-self-3
     enum-known-self-4
     enum-told-14
+    enum-told-15
+    enum-told-16
+    enum-known-self-5
     returns
     returns-2
     returns-3
@@ -149,4 +170,7 @@ place-spec =
     returns-15
     returns-16
     returns-17
-    returns-18)
+    returns-18
+    returns-19
+    returns-20
+    returns-21)

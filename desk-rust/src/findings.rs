@@ -8,7 +8,7 @@ use crate::trouble::Trouble;
 use crate::words::listed;
 use veilbuzz::{Analysis, Class, Fields, Refusal};
 
-pub struct Facts<'a> {
+pub struct Findings<'a> {
     pub known: &'a Known,
     pub analysis: Analysis,
     /// Of each node, in the order in which it makes them.
@@ -29,11 +29,11 @@ pub fn refused_in(known: &Known, refusal: Refusal) -> Trouble {
     }
 }
 
-impl<'a> Facts<'a> {
-    pub fn of(known: &'a Known) -> Result<Facts<'a>, Trouble> {
+impl<'a> Findings<'a> {
+    pub fn of(known: &'a Known) -> Result<Findings<'a>, Trouble> {
         let refused = |refusal| refused_in(known, refusal);
         let touches = |node: &Node| touches(&known.header, &node.fields).map_err(refused);
-        Ok(Facts {
+        Ok(Findings {
             known,
             analysis: Analysis::of(&known.chart).map_err(refused)?,
             touches: known.nodes.iter().map(touches).collect::<Result<_, Trouble>>()?,

@@ -1,7 +1,8 @@
 -- The examples of docs/RULES.md, section by section, as soundings, so that the page shows nothing that the definitions do not give. Those that
 -- another list has too (sections 5, 6, 8 and 10 in `starred`, references of two and four bytes in `Sizes` of the crate `chart` and in
 -- `Straddling`, 14 as `sample-report`; that section 7's table is the tightest, in `unchecked`; what section 15 has of the writer, in its own
--- soundings) are not repeated. Nothing here is a rule of the tool: it is what rules come to.
+-- soundings; section 17 in `timely`, and 18 in `bounds`, `figuresAsFacts` and `notBounded`) are not repeated. Nothing here is a rule of the tool: it is
+-- what rules come to.
 use Prim.Native.Nat.{ℕ, _*_, _/_, _%_}
 use mathlib.Core.Bool.{Bool, cond}
 use mathlib.Core.List.{List, [], _∷_, _++_}

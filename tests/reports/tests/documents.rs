@@ -59,6 +59,20 @@ fn the_readme_shows_what_the_examples_of_a_deadline_and_a_bound_print() {
 }
 
 #[test]
+fn the_picture_of_facts_has_the_bounds_of_the_example() {
+    let (printed, picture) = (text("examples/bound.stdout"), text("docs/facts.svg"));
+    let bounds: Vec<&str> = printed
+        .lines()
+        .filter_map(|line| Some(line.rsplit_once("no more than ")?.1))
+        .collect();
+    assert_eq!(bounds.len(), 2);
+    for bound in bounds {
+        let shown = format!(">{bound}<");
+        assert!(picture.contains(&shown), "docs/facts.svg has no {shown}");
+    }
+}
+
+#[test]
 fn the_picture_of_a_deadline_has_the_figures_of_the_example() {
     let (printed, picture) = (text("examples/deadline.stdout"), text("docs/deadline.svg"));
     let figures: Vec<String> = printed

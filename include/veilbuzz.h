@@ -191,11 +191,11 @@ enum {
     VEILBUZZ_CLASS_KEPT = 5       /* the touch hits, but for one at most of those of its block that are called so */
 };
 
-/* The refusals, section 11 of docs/RULES.md, 23 to 25 of certificates (section 18), looked for one after another as they stand here; what is found
- * first is given. No function gives 19 to 22 yet. Only whether `answer`, `header`, `fields` and `figures` are too short is looked at before
- * all others. Where several nodes are at fault, the first one is told. What veilbuzz_write is given is a chart's fields and not its bytes, so
- * that 1, 2 and 7 cannot apply; 3 to 6, 9 and 10 it gives as veilbuzz_read does, with the same place, and so too where a number is too large
- * for its field.
+/* The refusals, section 11 of docs/RULES.md, 23 to 25 of certificates (section 18), looked for one after another as they stand here; what
+ * is found first is given. No function gives 19 to 22 yet. Only whether `answer`, `header`, `fields` and `figures` are too short is looked
+ * at before all others. Where several nodes are at fault, the first one is told. What veilbuzz_write is given is a chart's fields and not
+ * its bytes, so that 1, 2 and 7 cannot apply; 3 to 6, 9 and 10 it gives as veilbuzz_read does, with the same place, and so too where a
+ * number is too large for its field.
  *
  *   no.  given if                                               place        what to do
  *    1   the chart has fewer than 8 bytes                       0            give the whole file

@@ -5,8 +5,8 @@ mod lent;
 mod question;
 
 use charts::{Chart, Record};
-use lent::{AGES, NODES};
-use question::{Question, HIGH, LOW};
+use lent::NODES;
+use question::{Question, FAULTS, HIGH, LOW};
 use veilbuzz::{bound, Analysis, Certificate, Costs, Facts, Refusal, Side};
 
 /// What shows a bound for one side.
@@ -414,22 +414,6 @@ fn lengths_come_before_ranges_and_these_before_what_does_not_hold() {
     };
     assert_eq!(after(&Shown::high(), change), refusal(23, 0));
 }
-
-/// A change for each thing that the totals look at too, and the refusal that comes of it.
-type Fault = (fn(&mut Question), usize, usize);
-
-const FAULTS: [Fault; 9] = [
-    (|question| question.chart.truncate(7), 1, 0),
-    // size code 3
-    (|question| question.chart[8 + 8 + 7] |= 3, 9, 1),
-    (|question| question.lent.must.truncate(AGES - 1), 11, 0),
-    (|question| question.lent.may.truncate(AGES - 1), 11, 0),
-    (|question| question.lent.marks.truncate(NODES - 1), 11, 0),
-    (|question| question.lent.must[4] = 1, 13, 0),
-    (|question| question.lent.may[3] = 1, 13, 0),
-    (|question| question.lent.marks[1] = 0, 13, 0),
-    (|question| question.costs = Costs { hit: 1000, miss: 3 }, 15, 0),
-];
 
 #[test]
 fn chart_table_and_costs_come_before_facts_and_certificate() {

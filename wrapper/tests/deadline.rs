@@ -3,8 +3,8 @@
 mod lent;
 mod question;
 
-use lent::{AGES, NODES};
-use question::{Question, HIGH, LOW};
+use lent::NODES;
+use question::{Fault, Question, FAULTS, HIGH, LOW};
 use veilbuzz::{deadline, ClockSheet, Costs, Deadline, Judged, Refusal};
 
 /// The answer to a question, and that all is left as it was lent.
@@ -172,29 +172,17 @@ fn a_window_the_wrong_way_round_is_refusal_18() {
     assert_eq!(judged(EXACT, window(EARLIEST, EARLIEST.next_down())), IMPOSSIBLE);
 }
 
-/// A change for each thing that the totals look at, and the refusal that comes of it.
-type Fault = (fn(&mut Question), usize, usize);
-
-const FAULTS: [Fault; 13] = [
-    (|question| question.chart.truncate(7), 1, 0),
-    // size code 3
-    (|question| question.chart[8 + 8 + 7] |= 3, 9, 1),
-    (|question| question.lent.must.truncate(AGES - 1), 11, 0),
-    (|question| question.lent.may.truncate(AGES - 1), 11, 0),
-    (|question| question.lent.marks.truncate(NODES - 1), 11, 0),
-    (|question| question.lent.must[4] = 1, 13, 0),
-    (|question| question.lent.may[3] = 1, 13, 0),
-    (|question| question.lent.marks[1] = 0, 13, 0),
+/// Faults of floors and ceilings.
+const FAULTS_OF_BOUNDS: [Fault; 4] = [
     (|question| question.floors.truncate(NODES - 1), 14, 0),
     (|question| question.ceilings.truncate(NODES - 1), 14, 0),
-    (|question| question.costs = Costs { hit: 1000, miss: 3 }, 15, 0),
     (|question| question.ceilings[2] = 2, 16, 2),
     (|question| question.floors[3] = 1, 17, 3),
 ];
 
 #[test]
 fn what_the_totals_refuse_is_refused_before_impossible_times() {
-    for (change, number, place) in FAULTS {
+    for (change, number, place) in FAULTS.into_iter().chain(FAULTS_OF_BOUNDS) {
         let mut question = Question::fresh();
         change(&mut question);
         for (sheet, limits) in [

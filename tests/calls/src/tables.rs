@@ -6,7 +6,6 @@ use charts::random::Random;
 use second::chart::Chart;
 use second::lending::Lending;
 use second::lent::Lent;
-use second::limits::PASSES;
 
 /// A table in three buffers, which may be shorter or longer than it.
 pub struct Table {
@@ -43,8 +42,7 @@ impl Table {
 
 /// A table of just the size that a chart needs.
 fn table(random: &mut Random, bytes: &[u8], chart: &Chart, turns: u64) -> Lending {
-    let mut table = Lending::of(chart.blocks.len(), chart.nodes.len(), 0);
-    table.analyse(bytes, PASSES);
+    let mut table = Lending::analysed(bytes, chart);
     if !random.once_in(turns) {
         return table;
     }

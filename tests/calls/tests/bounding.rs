@@ -1,13 +1,15 @@
 //! So that a run is no idle one: what the calls of veilbuzz_bound among the gate's shortest file have among them.
 
+mod met;
+
 use calls::{Case, Function, SEED};
 use charts::Claim;
+use met::each;
 use second::cache::Costs;
 use second::certificate::Side;
 use second::grounds::Grounds;
 use second::lent::Lent;
 use second::ranges::{COEFFICIENTS, DENOMINATORS, LIMITS, MULTIPLIERS, POTENTIALS};
-use std::collections::BTreeMap;
 use std::sync::OnceLock;
 
 /// A call of veilbuzz_bound by what counts below.
@@ -71,18 +73,6 @@ fn all_asked() -> impl Iterator<Item = &'static Asked> {
 
 fn returning(number: u64) -> impl Iterator<Item = &'static Asked> {
     all_asked().filter(move |asked| asked.returned == number)
-}
-
-/// Holds each of these to so many times at least.
-fn each<K: Ord + std::fmt::Debug>(least: usize, expected: impl IntoIterator<Item = K>, keys: impl Iterator<Item = K>) {
-    let mut times = BTreeMap::new();
-    for key in keys {
-        *times.entry(key).or_insert(0) += 1;
-    }
-    for key in expected {
-        let met = times.get(&key).copied().unwrap_or(0);
-        assert!(met >= least, "{key:?} is met only {met} times");
-    }
 }
 
 const FAULTS: [&str; 11] = [

@@ -1,10 +1,12 @@
 //! So that a run is no idle one: what the calls of veilbuzz_deadline among the gate's shortest file have among them.
 
+mod met;
+
 use calls::{Case, Function, SEED};
+use met::each;
 use second::cache::Costs;
 use second::lent::Lent;
 use second::totals::{totals, Bounds, Totals};
-use std::collections::BTreeMap;
 use std::num::FpCategory::{Infinite, Nan, Normal, Subnormal, Zero};
 use std::sync::OnceLock;
 
@@ -79,18 +81,6 @@ fn all_asked() -> impl Iterator<Item = &'static Asked> {
 
 fn judged() -> impl Iterator<Item = &'static Asked> {
     all_asked().filter(|asked| asked.returned == 0)
-}
-
-/// Holds each of these to so many times at least.
-fn each<K: Ord + std::fmt::Debug>(least: usize, expected: impl IntoIterator<Item = K>, keys: impl Iterator<Item = K>) {
-    let mut times = BTreeMap::new();
-    for key in keys {
-        *times.entry(key).or_insert(0) += 1;
-    }
-    for key in expected {
-        let met = times.get(&key).copied().unwrap_or(0);
-        assert!(met >= least, "{key:?} is met only {met} times");
-    }
 }
 
 /// What a number of a call is, read as a float.

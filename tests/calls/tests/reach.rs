@@ -7,7 +7,7 @@ use second::class::Class;
 use second::kept::Kept;
 use second::lending::Lending;
 use second::lent::Lent;
-use second::limits::{BLOCKS, PASSES, TOUCHES};
+use second::limits::{BLOCKS, TOUCHES};
 
 fn cases() -> impl Iterator<Item = Case> {
     (0..60_000).map(|number| calls::case(SEED, number))
@@ -44,8 +44,7 @@ fn touches_of_what_is_analysed_have_every_class() {
 fn keeps(case: &Case) -> [bool; 2] {
     let bytes = case.buffers[0].elements::<u8>();
     let chart = Chart::read(&bytes).expect("the chart is accepted");
-    let mut own = Lending::of(chart.blocks.len(), chart.nodes.len(), 0);
-    own.analyse(&bytes, PASSES);
+    let own = Lending::analysed(&bytes, &chart);
     let [must, may, marks] = [1, 2, 3].map(|place: usize| case.buffers[place].elements::<u8>());
     let lent = Lent {
         must: &must,

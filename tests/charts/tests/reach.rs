@@ -7,14 +7,13 @@ use charts::random_edges::{at_an_edge, EDGES};
 use charts::sizes::touched_before;
 use second::chart::Chart;
 use second::lending::Lending;
-use second::limits::{BLOCKS, PASSES};
+use second::limits::BLOCKS;
 use std::collections::BTreeMap;
 
 /// How many nodes of an accepted chart are reached.
 fn reached(bytes: &[u8], chart: &Chart) -> usize {
-    let mut lending = Lending::of(chart.blocks.len(), chart.nodes.len(), 0);
-    lending.analyse(bytes, PASSES);
-    lending.marks.iter().filter(|&&mark| mark == 1).count()
+    let marks = Lending::analysed(bytes, chart).marks;
+    marks.iter().filter(|&&mark| mark == 1).count()
 }
 
 #[test]
@@ -37,8 +36,7 @@ fn hits_misses_unsure_and_kept_touches_are_often_each() {
     for _ in 0..2_000 {
         let bytes = whole(&mut random).bytes();
         let Ok(chart) = Chart::read(&bytes) else { continue };
-        let mut lending = Lending::of(chart.blocks.len(), chart.nodes.len(), 0);
-        lending.analyse(&bytes, PASSES);
+        let lending = Lending::analysed(&bytes, &chart);
         charts += 1;
         for (class, with) in with.iter_mut().enumerate() {
             *with += usize::from(lending.classes.contains(&(class as u8)));

@@ -1,11 +1,12 @@
 use crate::analysis::{analyse, Analysed, Buffers};
 use crate::cache::Costs;
+use crate::chart::Chart;
 use crate::checker::check;
 use crate::clock::ClockSheet;
 use crate::deadline::{deadline, Deadline, Judged};
 use crate::grounds::Grounds;
 use crate::lent::Lent;
-use crate::limits::{BLOCKS, NODES, TOUCHES};
+use crate::limits::{BLOCKS, NODES, PASSES, TOUCHES};
 use crate::refusal::Refusal;
 use crate::totals::{totals, Bounds, Totals};
 
@@ -34,6 +35,13 @@ impl Lending {
     /// Zeros, with room for the largest chart.
     pub fn largest() -> Lending {
         Lending::of(BLOCKS, NODES, 0)
+    }
+
+    /// What the analysis leaves of a chart with these bytes, in buffers just as long as used.
+    pub fn analysed(bytes: &[u8], chart: &Chart) -> Lending {
+        let mut lending = Lending::of(chart.blocks.len(), chart.nodes.len(), 0);
+        lending.analyse(bytes, PASSES);
+        lending
     }
 
     pub fn analyse(&mut self, chart: &[u8], allowance: usize) -> Analysed {

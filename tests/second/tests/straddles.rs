@@ -18,10 +18,7 @@ fn four(address: u64) -> Record {
 /// What the analysis leaves of records in a row, in 2^`sets` sets of so many ways.
 fn analysed(records: &[Record], sets: u64, ways: u64, start: u64) -> Lending {
     let chart = Chart::of(records.to_vec()).in_a_row().shaped(sets, ways, start).bytes();
-    let blocks = chart::Chart::read(&chart).expect("the chart is accepted").blocks.len();
-    let mut lending = Lending::of(blocks, records.len(), 0);
-    lending.analyse(&chart, PASSES);
-    lending
+    Lending::analysed(&chart, &chart::Chart::read(&chart).expect("the chart is accepted"))
 }
 
 fn classes(records: &[Record], sets: u64, ways: u64, start: u64) -> Vec<u8> {

@@ -1,10 +1,12 @@
 //! The order of the refusals of the totals and of the deadline: of several faults at once the first is told.
 
+mod faults;
 mod question;
 
 use charts::random::Random;
 use charts::random_charts::{damaged, whole};
 use charts::Chart;
+use faults::{first_of_any_is_told, Fault};
 use question::{after, sample, Question};
 use second::chart;
 use second::clock::ClockSheet;
@@ -13,11 +15,8 @@ use second::limits::BLOCKS;
 use second::refusal::Refusal;
 use second::totals::{Bounds, Totals};
 
-/// A refusal, and a change of the question that brings it about.
-type Fault = (Refusal, fn(&mut Question));
-
 /// A fault for each refusal after the chart's own.
-const FAULTS: [Fault; 6] = [
+const FAULTS: [Fault<Question>; 6] = [
     (Refusal { number: 11, place: 0 }, |question| {
         question.table.may.pop();
     }),
@@ -59,15 +58,7 @@ fn without_a_fault_there_are_totals() {
 
 #[test]
 fn the_first_fault_of_any_is_refused() {
-    for faults in 1..1 << FAULTS.len() {
-        let mut question = Question::accepted();
-        let among = |fault: &usize| faults >> fault & 1 == 1;
-        for fault in (0..FAULTS.len()).filter(among) {
-            FAULTS[fault].1(&mut question);
-        }
-        let first = (0..FAULTS.len()).find(among).expect("there is one");
-        assert_eq!(question.answer(), Err(FAULTS[first].0), "faults {faults:06b}");
-    }
+    first_of_any_is_told(&FAULTS, Question::accepted, Question::answer);
 }
 
 #[test]

@@ -3,6 +3,8 @@
 mod best;
 mod branch;
 mod enumerated;
+#[path = "../faults/mod.rs"]
+mod faults;
 mod fractions;
 mod holding;
 mod nested;

@@ -1,5 +1,6 @@
 //! The order of the refusals of a bound: of several faults at once the first is told.
 
+use crate::faults::{first_of_any_is_told, Fault};
 use crate::small::{analysed, ten_turns, turning, COSTS};
 use charts::{Chart, Claim};
 use second::bound::bound;
@@ -33,10 +34,7 @@ impl Question {
     }
 }
 
-/// A refusal, and a change of the question that brings it about.
-type Fault = (Refusal, fn(&mut Question));
-
-const FAULTS: [Fault; 9] = [
+const FAULTS: [Fault<Question>; 9] = [
     (Refusal { number: 6, place: 0 }, |question| {
         question.chart.header.entry = 3;
     }),
@@ -67,15 +65,7 @@ fn without_a_fault_there_is_a_bound() {
 
 #[test]
 fn the_first_fault_of_any_is_refused() {
-    for faults in 1..1 << FAULTS.len() {
-        let mut question = Question::accepted();
-        let among = |fault: &usize| faults >> fault & 1 == 1;
-        for fault in (0..FAULTS.len()).filter(among) {
-            FAULTS[fault].1(&mut question);
-        }
-        let first = (0..FAULTS.len()).find(among).expect("there is one");
-        assert_eq!(question.answer(), Err(FAULTS[first].0), "faults {faults:09b}");
-    }
+    first_of_any_is_told(&FAULTS, Question::accepted, Question::answer);
 }
 
 #[test]

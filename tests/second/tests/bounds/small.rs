@@ -5,7 +5,6 @@ use second::cache::Costs;
 use second::chart;
 use second::grounds::Grounds;
 use second::lending::Lending;
-use second::limits::PASSES;
 use second::refusal::Refusal;
 
 pub const HIGH: u64 = 0;
@@ -20,9 +19,7 @@ pub fn read(chart: &Chart) -> chart::Chart {
 
 /// What the analysis leaves of a chart, in buffers just as long as used.
 pub fn analysed(chart: &Chart) -> Lending {
-    let mut table = Lending::of(read(chart).blocks.len(), chart.records.len(), 0);
-    table.analyse(&chart.bytes(), PASSES);
-    table
+    Lending::analysed(&chart.bytes(), &read(chart))
 }
 
 /// What a bound goes by under the analysis's own table.

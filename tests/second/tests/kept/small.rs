@@ -4,7 +4,7 @@ use charts::{Chart, Record};
 use second::cache::{cost, Cache, Costs};
 use second::chart;
 use second::lending::Lending;
-use second::limits::{PASSES, TOUCHES};
+use second::limits::TOUCHES;
 use second::totals::{Bounds, Totals};
 
 pub const UNKNOWN: u64 = 0;
@@ -34,9 +34,7 @@ pub fn read(chart: &Chart) -> chart::Chart {
 
 /// What the analysis leaves of a chart, in buffers just as long as used.
 pub fn analysed(chart: &Chart) -> Lending {
-    let mut table = Lending::of(read(chart).blocks.len(), chart.records.len(), 0);
-    table.analyse(&chart.bytes(), PASSES);
-    table
+    Lending::analysed(&chart.bytes(), &read(chart))
 }
 
 /// The classes of first touches, where no node makes a second one.

@@ -59,9 +59,16 @@ static unsigned long long told(int place) {
     return (unsigned long long)answer[place];
 }
 
-/* Tells a refusal. include/veilbuzz.h says what to do about each. */
+/* Tells a refusal in words: what was found, and what to do. */
+static void tell(FILE *to) {
+    const uint64_t refusal = answer[VEILBUZZ_ANSWER_NUMBER], place = answer[VEILBUZZ_ANSWER_PLACE];
+    fprintf(to, "refused %llu at %llu\n", (unsigned long long)refusal, (unsigned long long)place);
+    fprintf(to, "  %s\n  %s\n", veilbuzz_refusal_found(refusal), veilbuzz_refusal_mend(refusal));
+}
+
 static int refused(const char *what) {
-    fprintf(stderr, "%s: refusal %llu at node %llu\n", what, told(VEILBUZZ_ANSWER_NUMBER), told(VEILBUZZ_ANSWER_PLACE));
+    fprintf(stderr, "%s: ", what);
+    tell(stderr);
     return 1;
 }
 
@@ -86,7 +93,9 @@ int main(void) {
 
     /* Left and tail together are left with more than that, which is refusal 25 at left, where the arrow begins. */
     potentials[TAIL] -= 1;
-    if (bound() == 25)
-        printf("the potential of tail one too small: refusal %llu at %llu\n", told(VEILBUZZ_ANSWER_NUMBER), told(VEILBUZZ_ANSWER_PLACE));
+    if (bound() == 25) {
+        printf("the potential of tail one too small: ");
+        tell(stdout);
+    }
     return 0;
 }

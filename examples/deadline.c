@@ -51,13 +51,16 @@ static uint8_t classes[VEILBUZZ_MOST_CLASSES];
 static double figures[VEILBUZZ_FIGURES_LENGTH];
 static uint64_t answer[VEILBUZZ_LONGEST_ANSWER];
 
-static unsigned long long told(int place) {
-    return (unsigned long long)answer[place];
+/* Tells a refusal in words: what was found, and what to do. */
+static void tell(FILE *to) {
+    const uint64_t refusal = answer[VEILBUZZ_ANSWER_NUMBER], place = answer[VEILBUZZ_ANSWER_PLACE];
+    fprintf(to, "refused %llu at %llu\n", (unsigned long long)refusal, (unsigned long long)place);
+    fprintf(to, "  %s\n  %s\n", veilbuzz_refusal_found(refusal), veilbuzz_refusal_mend(refusal));
 }
 
-/* Tells a refusal. include/veilbuzz.h says what to do about each. */
 static int refused(const char *what) {
-    fprintf(stderr, "%s: refusal %llu at node %llu\n", what, told(VEILBUZZ_ANSWER_NUMBER), told(VEILBUZZ_ANSWER_PLACE));
+    fprintf(stderr, "%s: ", what);
+    tell(stderr);
     return 1;
 }
 
@@ -86,7 +89,9 @@ int main(void) {
         return 1;
 
     /* No time is 120 at the least and 0 at the most, which is refusal 18. */
-    if (judge(VEILBUZZ_DEADLINE_WINDOW, latest, 0) == 18)
-        printf("from %.0f to 0 us: refusal %llu at %llu\n", latest, told(VEILBUZZ_ANSWER_NUMBER), told(VEILBUZZ_ANSWER_PLACE));
+    if (judge(VEILBUZZ_DEADLINE_WINDOW, latest, 0) == 18) {
+        printf("from %.0f to 0 us: ", latest);
+        tell(stdout);
+    }
     return 0;
 }

@@ -31,9 +31,16 @@ static unsigned long long number(const uint64_t *list, int place) {
     return (unsigned long long)list[place];
 }
 
-/* Tells a refusal. include/veilbuzz.h says what to do about each. */
+/* Tells a refusal in words: what was found, and what to do. */
+static void tell(FILE *to) {
+    const uint64_t refusal = answer[VEILBUZZ_ANSWER_NUMBER], place = answer[VEILBUZZ_ANSWER_PLACE];
+    fprintf(to, "refused %llu at %llu\n", (unsigned long long)refusal, (unsigned long long)place);
+    fprintf(to, "  %s\n  %s\n", veilbuzz_refusal_found(refusal), veilbuzz_refusal_mend(refusal));
+}
+
 static int refused(const char *what) {
-    fprintf(stderr, "%s: refusal %llu at node %llu\n", what, number(answer, VEILBUZZ_ANSWER_NUMBER), number(answer, VEILBUZZ_ANSWER_PLACE));
+    fprintf(stderr, "%s: ", what);
+    tell(stderr);
     return 1;
 }
 
@@ -69,7 +76,9 @@ int main(void) {
     printf("a walk costs %llu to %llu\n", number(answer, VEILBUZZ_TOTAL_LOW), number(answer, VEILBUZZ_TOTAL_HIGH));
 
     /* The first byte alone is no chart: it has fewer than 8 bytes, which is refusal 1. */
-    if (veilbuzz_read(chart, 1, header, VEILBUZZ_HEADER_LENGTH, answer, VEILBUZZ_LONGEST_ANSWER) == 1)
-        printf("its first byte: refusal %llu at %llu\n", number(answer, VEILBUZZ_ANSWER_NUMBER), number(answer, VEILBUZZ_ANSWER_PLACE));
+    if (veilbuzz_read(chart, 1, header, VEILBUZZ_HEADER_LENGTH, answer, VEILBUZZ_LONGEST_ANSWER) == 1) {
+        printf("its first byte: ");
+        tell(stdout);
+    }
     return 0;
 }

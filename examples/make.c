@@ -33,9 +33,16 @@ static unsigned long long told(int place) {
     return (unsigned long long)answer[place];
 }
 
-/* A refusal as the program tells it. include/veilbuzz.h says what to do about each. */
-static int refused(void) {
-    printf("refused %llu at %llu\n", told(VEILBUZZ_ANSWER_NUMBER), told(VEILBUZZ_ANSWER_PLACE));
+/* Tells a refusal in words: what was found, and what to do. */
+static void tell(FILE *to) {
+    const uint64_t refusal = answer[VEILBUZZ_ANSWER_NUMBER], place = answer[VEILBUZZ_ANSWER_PLACE];
+    fprintf(to, "refused %llu at %llu\n", (unsigned long long)refusal, (unsigned long long)place);
+    fprintf(to, "  %s\n  %s\n", veilbuzz_refusal_found(refusal), veilbuzz_refusal_mend(refusal));
+}
+
+static int refused(const char *what) {
+    fprintf(stderr, "%s: ", what);
+    tell(stderr);
     return 1;
 }
 
@@ -45,14 +52,14 @@ int main(void) {
 
     if (veilbuzz_write(line_bits, set_bits, ways, VEILBUZZ_START_EMPTY, NODES, entry, kinds, NODES, addresses, NODES, sizes, NODES, outs,
                        NODES, firsts, NODES, seconds, NODES, chart, sizeof chart, answer, VEILBUZZ_LONGEST_ANSWER) != 0)
-        return refused();
+        return refused("write");
     length = (size_t)answer[VEILBUZZ_WRITE_BYTES];
     for (place = 0; place < length; place++)
         printf("%02X%s", chart[place], place % 8 == 7 ? "\n" : "");
 
     if (veilbuzz_analyse(chart, length, VEILBUZZ_ENOUGH_PASSES, blocks, VEILBUZZ_MOST_BLOCKS, must, sizeof must, may, sizeof may, marks,
                          sizeof marks, classes, sizeof classes, answer, VEILBUZZ_LONGEST_ANSWER) != 0)
-        return refused();
+        return refused("analyse");
     printf("nodes %d blocks %llu passes %llu\n", NODES, told(VEILBUZZ_ANALYSE_BLOCKS), told(VEILBUZZ_ANALYSE_PASSES));
     for (node = 0; node < NODES; node++) {
         const uint8_t *const both = classes + VEILBUZZ_MOST_TOUCHES * node;

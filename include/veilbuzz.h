@@ -1,7 +1,8 @@
 /* Veilbuzz for C: does a memory reference always hit the cache, always miss, miss once at the most, or can it not be told?
  *
  * Link with the archive that tests/archive makes:  cc -Iinclude mine.c "$(tests/archive)/libboundary.a"
- * examples/loop.c, examples/make.c, examples/deadline.c and examples/bound.c are whole programs; docs/HEX.md has the chart's bits,
+ * or, where ./install has put it into a folder:    cc -I PREFIX/include mine.c -L PREFIX/lib -lveilbuzz
+ * In the repository, from which this comes, examples/loop.c, examples/make.c, examples/deadline.c and examples/bound.c are whole programs; docs/HEX.md has the chart's bits,
  * docs/REFUSALS.md each refusal at length.
  *
  * What the functions answer and leave is proved of their source, for any bytes and any lengths: each ends, and writes only what is said
@@ -42,6 +43,9 @@
 #ifdef __cplusplus
 extern "C" {
 #endif
+
+/* The version, which is that of the Rust crate and of the desk too. */
+#define VEILBUZZ_VERSION "0.2.0"
 
 /* Limits: what is enough for every chart. */
 enum {
@@ -197,46 +201,137 @@ enum {
  * its bytes, so that 1, 2 and 7 cannot apply; 3 to 6, 9 and 10 it gives as veilbuzz_read does, with the same place, and so too where a
  * number is too large for its field.
  *
- *   no.  given if                                               place        what to do
- *    1   the chart has fewer than 8 bytes                       0            give the whole file
- *    2   its edition is not 1                                   0            the first byte has to be 01
- *    3   L not 2 to 8, S not 0 to 8, or A not 1 to 8            0            look at the cache's shape
- *    4   its start code is neither 0 nor 1                      0            0 is unknown, 1 is empty
- *    5   N is 0 or above VEILBUZZ_MOST_NODES                    0            mend the count, or split the chart as
- *                                                                            docs/REFUSALS.md tells
- *    6   its entry is not below N                               0            name a node that there is
- *    7   a spare bit of the header is set                       0            clear it
- *    8   it is not 8 + 8 N bytes long; a list of fields that    0            cut it, or add the missing records; one number for
- *        veilbuzz_write is given has not just N numbers                      each node in each list
- *    9   a record, or what is to be one, is not as rules 2.1,   that node    mend that node's record; if both its arrows lead to
- *        2.3, 2.4, 2.9, 2.11 and 2.12 have it                                one node: one arrow, or the other target; if its last
- *                                                                            byte is past the last address: a smaller size
- *   10   it has more blocks than VEILBUZZ_MOST_BLOCKS: the      that node    split the chart as docs/REFUSALS.md tells
- *        node, in node order, that brings the first too many
- *   11   a buffer has fewer places than are used, and is        0            lend N, 2 * N, B, N * B or 8 + 8 * N elements, as said
- *        neither floors, ceilings, one of the six lists that                 below, and the lengths named above for `answer`,
- *        veilbuzz_write is given nor one of the four of                      `header`, `fields` and `figures`
- *        facts and a certificate
- *   12   every pass of the allowance has changed something      0            allow VEILBUZZ_ENOUGH_PASSES
- *   13   the table does not pass                                0            lend the one that veilbuzz_analyse wrote
- *   14   there are not just N floors, or not just N ceilings    0            one number for each node
- *   15   the miss cost is below the hit cost                    0            swap them, if they were swapped
- *   16   a floor is above its ceiling                           that node    mend that node's two bounds
- *   17   a floor above 0 stands at a node without a mark        that node    no walk comes there: make it 0
- *   18   the times are impossible: a period of 0; a period,     0            give finite times of 0 and more, in microseconds, and a
- *        an overhead, or a limit that is looked at, which is                 period above 0: 8 MHz is 0.125; swap a window's limits,
- *        a NaN, infinite or below 0; a window whose latest                   if they were swapped
- *        time is before its earliest; no such kind
- *   23   of F limits: there are not just F * N coefficients,    0            one coefficient for each fact and node, one multiplier
- *        not just F multipliers, or not just N potentials                    for each fact, one potential for each node
- *   24   a coefficient, a limit, a multiplier, all multipliers  0            keep to the ranges above, by a smaller denominator if
- *        together, a potential or the denominator is out of                  need be
- *        its range; no such side
- *   25   the certificate does not hold at a node: the node is   that node    make the certificate for this chart, these costs, these
- *        the entry, and its own potential is too small; or it                facts and this side
- *        is marked, and too small is that of a node that an
- *        arrow leads to from it
+ *   no.  place        given if
+ *    1   0            the chart has fewer than 8 bytes
+ *    2   0            its edition is not 1
+ *    3   0            L not 2 to 8, S not 0 to 8, or A not 1 to 8
+ *    4   0            its start code is neither 0 nor 1
+ *    5   0            N is 0 or above VEILBUZZ_MOST_NODES
+ *    6   0            its entry is not below N
+ *    7   0            a spare bit of the header is set
+ *    8   0            it is not 8 + 8 N bytes long; a list of fields that veilbuzz_write is given has not just N numbers
+ *    9   that node    a record, or what is to be one, is not as rules 2.1, 2.3, 2.4, 2.9, 2.11 and 2.12 have it
+ *   10   that node    it has more blocks than VEILBUZZ_MOST_BLOCKS: the node, in node order, that brings the first too many
+ *   11   0            a buffer has fewer places than are used, and is neither floors, ceilings, one of the six lists that
+ *                     veilbuzz_write is given nor one of the four of facts and a certificate
+ *   12   0            every pass of the allowance has changed something
+ *   13   0            the table does not pass
+ *   14   0            there are not just N floors, or not just N ceilings
+ *   15   0            the miss cost is below the hit cost
+ *   16   that node    a floor is above its ceiling
+ *   17   that node    a floor above 0 stands at a node without a mark
+ *   18   0            the times are impossible: a period of 0; a period, an overhead, or a limit that is looked at, which is a NaN,
+ *                     infinite or below 0; a window whose latest time is before its earliest; no such kind
+ *   23   0            of F limits: there are not just F * N coefficients, not just F multipliers, or not just N potentials
+ *   24   0            a coefficient, a limit, a multiplier, all multipliers together, a potential or the denominator is out of its
+ *                     range; no such side
+ *   25   that node    the certificate does not hold at a node: the node is the entry, and its own potential is too small; or it is
+ *                     marked, and too small is that of a node that an arrow leads to from it
  */
+
+/* A refusal in words: what was found, in short, and what to do. NULL for a number that nothing is refused with: 0, those from 19 to 22 and
+ * those from 26 on. The words are no part of the proof; Rust, Python and the desk have the same ones, which is tested. */
+static inline const char *veilbuzz_refusal_found(uint64_t number) {
+    switch (number) {
+    case 1:
+        return "the chart has fewer than 8 bytes";
+    case 2:
+        return "the edition is not 1";
+    case 3:
+        return "there is no such cache: L is not 2 to 8, S not 0 to 8, or A not 1 to 8";
+    case 4:
+        return "the start code is neither 0 nor 1";
+    case 5:
+        return "the number of nodes, N, is not 1 to 1024";
+    case 6:
+        return "the entry is not below N, the number of nodes";
+    case 7:
+        return "a spare bit of the header is set";
+    case 8:
+        return "the chart is not 8 + 8 N bytes long, or a list of fields not N numbers";
+    case 9:
+        return "a record breaks its rules";
+    case 10:
+        return "the chart has over 64 blocks";
+    case 11:
+        return "a lent buffer has fewer places than are used";
+    case 12:
+        return "the passes that were allowed are too few";
+    case 13:
+        return "the table does not pass";
+    case 14:
+        return "there are not just N floors, or not just N ceilings";
+    case 15:
+        return "the miss cost is below the hit cost";
+    case 16:
+        return "a floor is above its ceiling";
+    case 17:
+        return "a floor above 0 stands at a node without a mark";
+    case 18:
+        return "the times are impossible: a period of 0, a time below 0 or not finite, a window that ends before it begins, "
+               "or no such kind of deadline";
+    case 23:
+        return "a list of the facts or of the certificate has the wrong length";
+    case 24:
+        return "a number of the facts or of the certificate is out of its range, or there is no such side";
+    case 25:
+        return "the certificate does not hold at that node: its own potential, if it is the entry, or that of an arrow's target is too small";
+    default:
+        return NULL;
+    }
+}
+
+static inline const char *veilbuzz_refusal_mend(uint64_t number) {
+    switch (number) {
+    case 1:
+        return "give the whole file";
+    case 2:
+        return "the first byte has to be 01; './desk chart' makes a chart of a text";
+    case 3:
+        return "look at the cache's shape: a line has 2^L bytes, and there are 2^S sets of A ways";
+    case 4:
+        return "0 is unknown, 1 is empty";
+    case 5:
+        return "mend the count, or split the chart as docs/REFUSALS.md tells";
+    case 6:
+        return "name a node that there is";
+    case 7:
+        return "clear it";
+    case 8:
+        return "cut it, or add the missing records; one number for each node in each list";
+    case 9:
+        return "mend that node's record; if both its arrows lead to one node: one arrow, or the other target; "
+               "if its last byte is past the last address: a smaller size";
+    case 10:
+        return "split the chart as docs/REFUSALS.md tells";
+    case 11:
+        return "lend N, 2 * N, B, N * B or 8 + 8 * N elements, as the function says; in C also as many as its answer, header, "
+               "fields or figures have";
+    case 12:
+        return "allow 1049601 passes, which are enough for every chart";
+    case 13:
+        return "lend the one that the analysis wrote for this chart";
+    case 14:
+        return "one number for each node";
+    case 15:
+        return "swap them, if they were swapped";
+    case 16:
+        return "mend that node's two bounds";
+    case 17:
+        return "no walk comes there: make it 0";
+    case 18:
+        return "give times in microseconds, of 8 MHz a period of 0.125; swap the window's limits, if they were swapped";
+    case 23:
+        return "of F limits: F * N coefficients, F multipliers and N potentials";
+    case 24:
+        return "a denominator of 1 to 2^32; coefficients and limits of -2^24 to 2^24; no multiplier below 0, "
+               "and all together no more than 2^36; potentials of -2^60 to 2^60";
+    case 25:
+        return "make the certificate for this chart, these costs, these facts and this side";
+    default:
+        return NULL;
+    }
+}
 
 /* Reads a chart, as a caller does first who wants to know N and B: refusals 1 to 10, and 11 for `header` and `answer`. Where none of them
  * applies, the header is told in the first six places of `header`, and B in `answer`. After a refusal `header` is as it was. */

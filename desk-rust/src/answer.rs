@@ -2,15 +2,26 @@
 
 use crate::json::Value;
 use crate::paint::Painted;
+use crate::trouble::ANSWERED;
 
 pub struct Answer {
     words: Painted,
     json: Value,
+    status: u8,
 }
 
 impl Answer {
     pub fn new(words: Painted, json: Value) -> Answer {
-        Answer { words, json }
+        Answer {
+            words,
+            json,
+            status: ANSWERED,
+        }
+    }
+
+    /// The same answer, with which the desk ends otherwise.
+    pub fn ending(self, status: u8) -> Answer {
+        Answer { status, ..self }
     }
 
     /// An answer without colours.
@@ -27,5 +38,10 @@ impl Answer {
 
     pub fn json(&self) -> &Value {
         &self.json
+    }
+
+    /// The exit status.
+    pub fn status(&self) -> u8 {
+        self.status
     }
 }

@@ -10,7 +10,11 @@ use std::ffi::{OsStr, OsString};
 pub enum Command {
     Report,
     Totals,
+    Deadline,
     Why,
+    Draw,
+    Page,
+    Compare,
     Chart,
     Text,
     New,
@@ -20,10 +24,14 @@ pub enum Command {
 /// A command, its name, the least and the most words that it takes, and its options.
 type Known = (Command, &'static str, [usize; 2], &'static [&'static str]);
 
-pub const COMMANDS: [Known; 7] = [
+pub const COMMANDS: [Known; 11] = [
     (Command::Report, "report", [1, 1], &[]),
     (Command::Totals, "totals", [1, 1], &["--hit", "--miss"]),
+    (Command::Deadline, "deadline", [1, 1], &["--hit", "--miss"]),
     (Command::Why, "why", [2, 2], &[]),
+    (Command::Draw, "draw", [1, 1], &["-o", "--dot"]),
+    (Command::Page, "page", [1, 1], &["-o", "--hit", "--miss"]),
+    (Command::Compare, "compare", [2, 2], &["--hit", "--miss"]),
     (Command::Chart, "chart", [1, 1], &["-o"]),
     (Command::Text, "text", [1, 1], &["-o"]),
     (Command::New, "new", [0, 0], &[]),
@@ -46,6 +54,8 @@ pub struct Call {
     pub words: Vec<OsString>,
     pub json: bool,
     pub output: Option<OsString>,
+    /// Whether the source of a picture is asked for, and not the picture.
+    pub dot: bool,
     pub hit: Option<u16>,
     pub miss: Option<u16>,
 }
@@ -83,6 +93,7 @@ pub fn asked(words: Vec<OsString>) -> Result<Asked, Trouble> {
         words: vec![],
         json: false,
         output: None,
+        dot: false,
         hit: None,
         miss: None,
     };
@@ -102,6 +113,7 @@ pub fn asked(words: Vec<OsString>) -> Result<Asked, Trouble> {
             "--help" | "-h" => return Ok(Asked::Help(Some(command))),
             "--json" => call.json = true,
             _ if !options.contains(&option) => return Err(no_option(&name, option, options)),
+            "--dot" => call.dot = true,
             _ => {
                 let value = joined.or_else(|| words.next());
                 let value = value.ok_or_else(|| usage(&name, &format!("{option} has nothing behind it")))?;
@@ -115,7 +127,11 @@ pub fn asked(words: Vec<OsString>) -> Result<Asked, Trouble> {
     }
     let given = call.words.len();
     if given < least {
-        let missing = if given == 0 { "name a file" } else { "name a node" };
+        let missing = match (given, command) {
+            (0, _) => "name a file",
+            (_, Command::Compare) => "name a second file",
+            _ => "name a node",
+        };
         return Err(usage(&name, missing));
     }
     if given > most {

@@ -39,7 +39,15 @@ pub fn bounded<'a>(findings: &Findings, costs: Costs, sayings: &'a [Saying]) -> 
     }
 }
 
+/// What it means if the low bound is above the high one: both hold of every walk that keeps the facts.
+pub const CROSSED: &str = "no walk keeps all facts: of one that did, the low bound would be above the high one";
+
 impl Bounded<'_> {
+    /// Whether the two bounds show that no walk keeps the facts.
+    pub fn crossed(&self) -> bool {
+        matches!((&self.low, &self.high), (Ok(low), Ok(high)) if low.bound > high.bound)
+    }
+
     /// Whether nothing can be said by the facts, since none of what was asked for could be had.
     pub fn says_nothing(&self) -> bool {
         let asked_in_vain = |side: &Result<Certified, Uncertified>| {

@@ -1,5 +1,6 @@
 //! What a text says, line by line, before its names are looked up and before the writer is asked.
 
+use crate::known::{Clock, Limits};
 use crate::lexer::{Line, Token};
 use crate::number::Placed;
 use crate::problem::Problems;
@@ -13,6 +14,8 @@ pub type Name<'a> = Placed<&'a str>;
 pub struct Draft<'a> {
     pub cache: Option<Cache>,
     pub costs: Option<CostLine>,
+    pub clock: Option<ClockLine>,
+    pub deadline: Option<DeadlineLine>,
     /// What the line of the entry says, if there is one: a name, if it can be read.
     pub entry: Option<Option<Name<'a>>>,
     /// The names of addresses. Where a line has a fault, its name is known, and no number.
@@ -43,6 +46,16 @@ pub struct CostLine {
     pub span: Span,
     pub hit: u16,
     pub miss: u16,
+}
+
+pub struct ClockLine {
+    pub span: Span,
+    pub clock: Clock,
+}
+
+pub struct DeadlineLine {
+    pub span: Span,
+    pub limits: Limits,
 }
 
 pub struct Node<'a> {
@@ -78,6 +91,8 @@ impl Draft<'_> {
         Draft {
             cache: None,
             costs: None,
+            clock: None,
+            deadline: None,
             entry: None,
             addresses: HashMap::new(),
             nodes: vec![],

@@ -26,7 +26,7 @@ pub fn facts(totals: &Totals, bounded: &Bounded) -> Value {
     ])
 }
 
-fn side(side: &Result<Certified, Uncertified>) -> Value {
+pub fn side(side: &Result<Certified, Uncertified>) -> Value {
     let certified = side.as_ref().ok();
     object([
         ("bound", certified.map(|certified| certified.bound).into()),

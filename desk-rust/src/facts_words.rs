@@ -1,6 +1,6 @@
 //! What the facts of a text give, in words: two bounds, or why there are none, and what the high one rests on.
 
-use crate::bounded::Bounded;
+use crate::bounded::{Bounded, CROSSED};
 use crate::certify::Uncertified;
 use crate::paint::{Colour, Painted};
 use crate::solver::{Unsolved, SOLVER};
@@ -41,6 +41,7 @@ pub fn facts(totals: &Totals, bounded: &Bounded, out: &mut Painted) {
 pub fn sentences(bounded: &Bounded) -> Vec<String> {
     let [low, high] = [&bounded.low, &bounded.high].map(|side| side.as_ref().err());
     match (low, high) {
+        (None, None) if bounded.crossed() => vec![CROSSED.into()],
         (Some(low), Some(high)) if low == high => vec![sentence("low or high bound", *low)],
         _ => [("low bound", low), ("high bound", high)]
             .into_iter()
@@ -49,7 +50,7 @@ pub fn sentences(bounded: &Bounded) -> Vec<String> {
     }
 }
 
-fn sentence(bound: &str, why: Uncertified) -> String {
+pub fn sentence(bound: &str, why: Uncertified) -> String {
     let reason = match why {
         Uncertified::Unsolved(Unsolved::Missing) => {
             format!("there is no {SOLVER} on PATH, which finds certificates; 'apt-get install glpk-utils' installs it")

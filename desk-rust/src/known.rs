@@ -2,6 +2,7 @@
 
 use crate::fact::Saying;
 use crate::source::{Source, Span};
+use crate::time::Time;
 use veilbuzz::{fields_of, Costs, Fields, Header, Refusal};
 
 pub struct Known {
@@ -12,6 +13,8 @@ pub struct Known {
     /// In the chart's order.
     pub nodes: Vec<Node>,
     pub costs: Option<Costs>,
+    pub clock: Option<Clock>,
+    pub limits: Option<Limits>,
     /// What lines `fact` and `loop` say, in the order of the text.
     pub facts: Vec<Saying>,
     /// The text that it came from, with the places in it that a refusal may have to be told at.
@@ -34,11 +37,29 @@ pub struct Visits {
     pub ceiling: u16,
 }
 
+/// How long a cycle takes, and what is added once (rule 17.1).
+#[derive(Clone, Copy, Debug, PartialEq, Eq)]
+pub struct Clock {
+    pub period: Time,
+    pub overhead: Time,
+}
+
+/// A deadline: a latest time, and an earliest one if it is a window (rule 17.2).
+#[derive(Clone, Copy, Debug, PartialEq, Eq)]
+pub struct Limits {
+    pub earliest: Option<Time>,
+    pub latest: Time,
+}
+
 /// Where a text says what a chart's bytes do not have.
 pub struct Text {
     pub source: Source,
     /// The numbers of the line of costs.
     pub costs: Option<Span>,
+    /// The line of the clock.
+    pub clock: Option<Span>,
+    /// The line of the deadline.
+    pub deadline: Option<Span>,
     /// Of each node, its visits.
     pub visits: Vec<Option<Span>>,
 }
@@ -59,6 +80,8 @@ impl Known {
             header,
             nodes: fields.into_iter().enumerate().map(node).collect(),
             costs: None,
+            clock: None,
+            limits: None,
             facts: vec![],
             text: None,
         })

@@ -61,6 +61,19 @@ fn length(text: &str, passes: fn(char) -> bool) -> usize {
     text.find(|letter| !passes(letter)).unwrap_or(text.len())
 }
 
+/// What some editors put before a text.
+const MARK: char = '\u{FEFF}';
+
+/// The lines of a text in their order.
+pub fn lines(text: &str) -> impl Iterator<Item = Line<'_>> {
+    let rest = text.strip_prefix(MARK).unwrap_or(text);
+    let mut at = text.len() - rest.len();
+    rest.split_inclusive('\n').map(move |line| {
+        at += line.len();
+        Line::new(line, at - line.len())
+    })
+}
+
 impl<'a> Line<'a> {
     /// A line that begins at a place of the whole text.
     pub fn new(line: &'a str, at: usize) -> Line<'a> {
@@ -69,6 +82,11 @@ impl<'a> Line<'a> {
             at,
             end: at,
         }
+    }
+
+    /// The tokens up to the end or a comment.
+    pub fn tokens(mut self) -> impl Iterator<Item = Token<'a>> {
+        std::iter::from_fn(move || Some(self.take()).filter(|token| token.kind != Kind::End))
     }
 
     pub fn peek(&self) -> Token<'a> {

@@ -56,6 +56,8 @@ fn drawn(source: &Source) -> Result<Known, Problems> {
             hit: line.hit,
             miss: line.miss,
         }),
+        clock: draft.clock.as_ref().map(|line| line.clock),
+        limits: draft.deadline.as_ref().map(|line| line.limits),
         facts,
         text: Some(said(source, &draft)),
     })
@@ -84,6 +86,8 @@ fn said(source: &Source, draft: &Draft) -> Text {
     Text {
         source: source.clone(),
         costs: draft.costs.as_ref().map(|line| line.span),
+        clock: draft.clock.as_ref().map(|line| line.span),
+        deadline: draft.deadline.as_ref().map(|line| line.span),
         visits: draft.nodes.iter().map(visits).collect(),
     }
 }

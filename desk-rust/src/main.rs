@@ -13,7 +13,7 @@ fn main() -> ExitCode {
     let words: Vec<OsString> = env::args_os().skip(1).collect();
     let for_a_script = for_a_script(&words);
     let (out, status) = match answered(words, for_a_script) {
-        Ok(out) => (out, ANSWERED),
+        Ok(answered) => answered,
         Err(trouble) if for_a_script => (format!("{}\n", trouble.json()).into_bytes(), trouble.status()),
         Err(trouble) => {
             // where nobody can be told, the status still tells
@@ -33,17 +33,17 @@ fn main() -> ExitCode {
     })
 }
 
-/// What goes to standard output.
-fn answered(words: Vec<OsString>, for_a_script: bool) -> Result<Vec<u8>, Trouble> {
+/// What goes to standard output, and the exit status.
+fn answered(words: Vec<OsString>, for_a_script: bool) -> Result<(Vec<u8>, u8), Trouble> {
     let call = match asked(words)? {
-        Asked::Help(command) => return Ok(help(command).into()),
-        Asked::Version => return Ok(format!("desk {}\n", env!("CARGO_PKG_VERSION")).into()),
+        Asked::Help(command) => return Ok((help(command).into(), ANSWERED)),
+        Asked::Version => return Ok((format!("desk {}\n", veilbuzz::VERSION).into(), ANSWERED)),
         Asked::Run(call) => call,
     };
     Ok(match run(&call)? {
-        Output::Bytes(bytes) => bytes,
-        Output::Answer(answer) if for_a_script => format!("{}\n", answer.json()).into(),
-        Output::Answer(answer) => answer.words(coloured()).into(),
+        Output::Bytes(bytes) => (bytes, ANSWERED),
+        Output::Answer(answer) if for_a_script => (format!("{}\n", answer.json()).into(), answer.status()),
+        Output::Answer(answer) => (answer.words(coloured()).into(), answer.status()),
     })
 }
 

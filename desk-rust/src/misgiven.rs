@@ -1,11 +1,12 @@
-//! Costs or visits that the proved totals refuse, told at the line that says them.
+//! Costs, visits or times that the proved functions refuse, told at the line that says them.
 
 use crate::findings::refused_in;
 use crate::given::Given;
-use crate::known::{Known, Visits};
+use crate::known::{Known, Limits, Visits};
 use crate::number::told;
 use crate::problem::{Problem, Problems};
 use crate::source::Span;
+use crate::time::microseconds;
 use crate::trouble::Trouble;
 use crate::words::counted;
 use veilbuzz::{Costs, Refusal};
@@ -15,6 +16,7 @@ pub fn misgiven(known: &Known, given: &Given, refusal: Refusal) -> Trouble {
         15 => costs(known, given),
         16 => visits(known, refusal.place, swapped),
         17 => visits(known, refusal.place, unreached),
+        18 => times(known),
         _ => None,
     };
     match (&known.text, problem) {
@@ -65,4 +67,33 @@ fn unreached(name: &str, visits: Visits, span: Span) -> Problem {
         may: format!("'visits 0', or 'visits 0..{ceiling}'"),
         mend: Some(format!("look for a missing arrow to '{name}', or write 'visits 0'")),
     }
+}
+
+/// Times that can be said and cannot be: a period of 0, or a window that ends before it begins (rule 11.18).
+fn times(known: &Known) -> Option<Problem> {
+    let text = known.text.as_ref()?;
+    let problem = |span, found, may: &str, mend| Problem {
+        code: "refused-18",
+        span,
+        found,
+        may: may.into(),
+        mend: Some(mend),
+    };
+    if known.clock?.period.femtoseconds() == 0 {
+        let mend = "write how long a cycle takes, as 'period 0.125 us' at 8 MHz".into();
+        return Some(problem(
+            text.clock?,
+            "a cycle is to take no time".into(),
+            "a period above 0",
+            mend,
+        ));
+    }
+    let Limits { earliest, latest } = known.limits?;
+    let [earliest, latest] = [earliest?, latest].map(|time| microseconds(time.femtoseconds()));
+    Some(problem(
+        text.deadline?,
+        format!("the latest time, {latest} us, is before the earliest, {earliest} us"),
+        "a latest time that is no earlier than the earliest",
+        format!("write 'earliest {latest} us latest {earliest} us', if the two were swapped"),
+    ))
 }

@@ -3,36 +3,29 @@
 use crate::draft::{Cache, Draft, Name};
 use crate::expect::{a_name, an_address, named, the_end, unexpected};
 use crate::fact::FACTS;
-use crate::lexer::{Kind, Line, Token};
+use crate::lexer::{lines, Kind, Line, Token};
 use crate::near::nearest;
 use crate::number::told;
 use crate::parse_cache::{cache, costs};
+use crate::parse_clock::{clock, deadline};
 use crate::parse_node::node;
 use crate::problem::Problem;
 use crate::source::Span;
 
 /// What a line that is no node's begins with.
-pub const LINES: [&str; 6] = ["cache", "cost", "entry", "at", "fact", "loop"];
+pub const LINES: [&str; 8] = ["cache", "cost", "clock", "deadline", "entry", "at", "fact", "loop"];
 
-const LINE_MAY: &str = "'cache', 'cost', 'entry', 'at', 'fact', 'loop', or a node's name and ':'";
+const LINE_MAY: &str = "'cache', 'cost', 'clock', 'deadline', 'entry', 'at', 'fact', 'loop', or a node's name and ':'";
 
 pub fn parse(text: &str) -> Draft<'_> {
     let mut draft = Draft::new();
-    // what some editors put before a text
-    let mark = if text.starts_with('\u{FEFF}') {
-        '\u{FEFF}'.len_utf8()
-    } else {
-        0
-    };
-    let mut at = mark;
-    for whole in text[mark..].split_inclusive('\n') {
-        if let Err(problem) = line(&mut draft, Line::new(whole, at)) {
+    for whole in lines(text) {
+        if let Err(problem) = line(&mut draft, whole) {
             draft.problems.push(problem);
         }
         if draft.problems.are_too_many() {
             break;
         }
-        at += whole.len();
     }
     draft
 }
@@ -53,6 +46,8 @@ fn line<'a>(draft: &mut Draft<'a>, mut rest: Line<'a>) -> Result<(), Problem> {
     match (token.kind, token.text) {
         (Kind::Word, "cache") => cache(draft, token.span, &mut rest),
         (Kind::Word, "cost") => costs(draft, token.span, &mut rest),
+        (Kind::Word, "clock") => clock(draft, token.span, &mut rest),
+        (Kind::Word, "deadline") => deadline(draft, token.span, &mut rest),
         (Kind::Word, "entry") => entry(draft, token.span, &mut rest),
         (Kind::Word, "at") => address(draft, &mut rest),
         (Kind::Word, "fact" | "loop") => {

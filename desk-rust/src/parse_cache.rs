@@ -57,7 +57,7 @@ pub fn costs(draft: &mut Draft, span: Span, rest: &mut Line) -> Result<(), Probl
 }
 
 /// Reads word after word of a line, each with what belongs to it.
-fn each(rest: &mut Line, mut read: impl FnMut(Token, &mut Line) -> Result<(), Problem>) -> Result<(), Problem> {
+pub fn each(rest: &mut Line, mut read: impl FnMut(Token, &mut Line) -> Result<(), Problem>) -> Result<(), Problem> {
     loop {
         match rest.peek().kind {
             Kind::End => return Ok(()),
@@ -67,7 +67,7 @@ fn each(rest: &mut Line, mut read: impl FnMut(Token, &mut Line) -> Result<(), Pr
 }
 
 /// That a token is none of the words of a line in which no sign stands between them.
-fn no_word(token: Token, words: &[&str], may: &str) -> Problem {
+pub fn no_word(token: Token, words: &[&str], may: &str) -> Problem {
     let problem = unexpected_word(token, words, may);
     Problem {
         mend: problem.mend.or_else(|| without_sign(token)),
@@ -76,7 +76,7 @@ fn no_word(token: Token, words: &[&str], may: &str) -> Problem {
 }
 
 /// Keeps what a word says, if it has not been said before.
-fn put<T>(slot: &mut Option<T>, word: Token, value: T) -> Result<(), Problem> {
+pub fn put<T>(slot: &mut Option<T>, word: Token, value: T) -> Result<(), Problem> {
     match slot.replace(value) {
         None => Ok(()),
         Some(_) => Err(twice(word.text, word.span)),
@@ -133,13 +133,14 @@ fn missing(said: &Cache, end: Span) -> Option<Problem> {
     ))
 }
 
-fn not_whole(code: &'static str, span: Span, what: &str, word: &str, mend: Option<String>) -> Problem {
+pub fn not_whole(code: &'static str, span: Span, what: &str, word: &str, mend: Option<String>) -> Problem {
     Problem {
         code,
         span,
         found: format!("{what} not told whole: '{word}' is missing"),
         may: match word {
             "start" => "'start' and 'unknown' or 'empty'".into(),
+            "period" | "overhead" | "latest" => format!("'{word}' and a time, as '{word} 2 us'"),
             word => format!("'{word}' and a number"),
         },
         mend,

@@ -26,7 +26,7 @@ pub struct Problems {
 const TOLD: usize = 20;
 
 /// So many letters of a line are shown; of a longer one so many before the place and after it.
-const SHOWN: usize = 140;
+pub const SHOWN: usize = 140;
 const AROUND: [usize; 2] = [60, 80];
 
 impl Problems {
@@ -59,6 +59,11 @@ impl Problems {
         let mut all: Vec<&Problem> = self.first.iter().collect();
         all.sort_by_key(|problem| problem.span);
         all
+    }
+
+    /// The one that stands first in the text.
+    pub fn leading(&self) -> Option<&Problem> {
+        self.first.iter().min_by_key(|problem| problem.span)
     }
 
     pub fn words(&self, source: &Source) -> String {
@@ -112,7 +117,7 @@ impl Problem {
 }
 
 /// The line of a place, or what lies around the place if the line is long, and a line that marks the place under it.
-fn shown(source: &Source, span: Span) -> [String; 2] {
+pub fn shown(source: &Source, span: Span) -> [String; 2] {
     let (line, start) = source.line(span.start);
     let at = (span.start - start).min(line.len());
     let whole = line.chars().count() <= SHOWN;

@@ -50,7 +50,7 @@ pub fn report(known: &Known) -> Result<Answer, Trouble> {
 }
 
 /// The nodes that a walk comes to and that lead nowhere. A forgotten arrow shows here.
-fn ends(findings: &Findings) -> Vec<usize> {
+pub fn ends(findings: &Findings) -> Vec<usize> {
     let nodes = 0..findings.known.nodes.len();
     let is_end = |node: &usize| findings.reached(*node) && findings.node(*node).fields.outs == 0;
     nodes.filter(is_end).collect()

@@ -2,23 +2,24 @@
 
 use crate::answer::Answer;
 use crate::args::{Call, Command};
-use crate::explained::{all, explained};
+use crate::compare::compare;
+use crate::deadline::deadline;
+use crate::draw::draw;
+use crate::explained::refusal;
 use crate::input::{input, Input, STANDARD_INPUT};
 use crate::json::{list, object, Value};
 use crate::known::Known;
 use crate::near::nearest;
+use crate::page::page;
 use crate::report::report;
 use crate::texted::texted;
 use crate::totals::totals;
 use crate::trouble::Trouble;
 use crate::why::why;
-use crate::words::counted;
+use crate::written::{write, Goal};
 use std::borrow::Cow;
-use std::ffi::OsStr;
-use std::fs;
-use std::os::unix::fs::MetadataExt;
 
-/// What goes to standard output: an answer, or the bytes of a chart.
+/// What goes to standard output: an answer, or what a command has made.
 pub enum Output {
     Answer(Answer),
     Bytes(Vec<u8>),
@@ -35,12 +36,27 @@ pub fn run(call: &Call) -> Result<Output, Trouble> {
             let known = file()?.known()?;
             why(&known, node(call, &known, &call.words[1].to_string_lossy())?)
         }
+        Command::Deadline => deadline(&file()?.known()?, call.hit, call.miss),
+        Command::Draw => return draw(call, &file()?.known()?),
+        Command::Page => return page(call, &file()?.known()?),
+        Command::Compare => both(call),
         Command::Chart => return chart(call, file()?),
         Command::Text => text(call, file()?),
         Command::New => Ok(Answer::plain(TEMPLATE, object([("text", TEMPLATE.into())]))),
-        Command::Refusal => refusal(call),
+        Command::Refusal => refusal(call.words.first().map(|number| number.to_string_lossy())),
     };
     answer.map(Output::Answer)
+}
+
+/// Two charts side by side.
+fn both(call: &Call) -> Result<Answer, Trouble> {
+    let [one, other] = [&call.words[0], &call.words[1]];
+    if one == STANDARD_INPUT && other == STANDARD_INPUT {
+        return Err(Trouble::Usage(
+            "standard input is one chart; name a file for the other".into(),
+        ));
+    }
+    compare(&input(one)?.known()?, &input(other)?.known()?, call.hit, call.miss)
 }
 
 /// The node that is asked about, by its name.
@@ -66,11 +82,7 @@ fn asked_about(call: &Call) -> Cow<'_, str> {
 
 /// Writes the chart that a text says.
 fn chart(call: &Call, input: Input) -> Result<Output, Trouble> {
-    let Some(output) = &call.output else {
-        return Err(Trouble::Usage(
-            "say where the chart is to go, as in: ./desk chart mine.txt -o mine.chart".into(),
-        ));
-    };
+    let goal = Goal::of(call, "chart", "chart mine.txt -o mine.chart")?;
     if input.is_chart() {
         return Err(Trouble::Unanswered {
             what: format!("{} is a chart of bytes already", input.file),
@@ -78,27 +90,11 @@ fn chart(call: &Call, input: Input) -> Result<Output, Trouble> {
         });
     }
     let known = input.known()?;
-    if output == STANDARD_INPUT {
-        return match call.json {
-            true => Err(Trouble::Usage(
-                "--json and -o - both want standard output; name a file for the chart".into(),
-            )),
-            false => Ok(Output::Bytes(known.chart)),
-        };
-    }
-    write(call, output, &known.chart)?;
-    let output = output.to_string_lossy();
-    let bytes = known.chart.len();
-    let words = format!("{output}: {bytes} bytes, {}\n", counted(known.nodes.len(), "node"));
-    let json = object([
-        ("file", known.file.as_str().into()),
-        ("written", output.as_ref().into()),
-        ("bytes", bytes.into()),
-        ("nodes", known.nodes.len().into()),
+    let more = vec![
         ("blocks", known.header.blocks.into()),
         ("names", list(known.nodes.iter().map(|node| node.name.as_str()))),
-    ]);
-    Ok(Output::Answer(Answer::plain(&words, json)))
+    ];
+    goal.reached(&known, known.chart.clone(), more)
 }
 
 /// Puts a chart of bytes into words.
@@ -132,43 +128,4 @@ fn text(call: &Call, input: Input) -> Result<Answer, Trouble> {
         }
         _ => Ok(Answer::plain(&text, json(Value::Null))),
     }
-}
-
-/// Writes a file, but not over the one that was read.
-fn write(call: &Call, output: &OsStr, bytes: &[u8]) -> Result<(), Trouble> {
-    let name = output.to_string_lossy();
-    let source = match &call.words[0] {
-        word if word == STANDARD_INPUT => OsStr::new("/dev/stdin"),
-        word => word,
-    };
-    // by the file itself, whatever names it has
-    let itself = |path: &OsStr| fs::metadata(path).map(|file| (file.dev(), file.ino())).ok();
-    if itself(output).is_some_and(|output| itself(source) == Some(output)) {
-        return Err(Trouble::Usage(format!(
-            "{name} is what is read; give what is written another name"
-        )));
-    }
-    fs::write(output, bytes).map_err(|error| Trouble::Files(format!("{name} cannot be written: {error}")))
-}
-
-fn refusal(call: &Call) -> Result<Answer, Trouble> {
-    let Some(number) = call.words.first() else {
-        let all = all();
-        let words: String = all
-            .iter()
-            .map(|section| format!("{:>3}  {}\n", section.number, section.title))
-            .collect();
-        let json = all
-            .iter()
-            .map(|section| object([("number", section.number.into()), ("title", section.title.into())]));
-        return Ok(Answer::plain(&words, object([("refusals", list(json))])));
-    };
-    let section = explained(&number.to_string_lossy())?;
-    let words = format!("Refusal {}: {}\n\n{}\n", section.number, section.title, section.text);
-    let json = object([
-        ("number", section.number.into()),
-        ("title", section.title.into()),
-        ("text", section.text.into()),
-    ]);
-    Ok(Answer::plain(&words, json))
 }

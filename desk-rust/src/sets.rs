@@ -42,6 +42,19 @@ impl<'a> Map<'a> {
         Map { findings, sets }
     }
 
+    /// How many blocks compete in a set.
+    pub fn competing_in(&self, set: u32) -> usize {
+        self.sets.get(&set).map_or(0, competing)
+    }
+
+    /// Each block with its set and who touches it: first those nodes that a walk comes to, then the others.
+    pub fn blocks(&self) -> impl Iterator<Item = (u32, u32, &[usize], &[usize])> {
+        self.sets.iter().flat_map(|(set, blocks)| {
+            let each = blocks.iter();
+            each.map(|(block, users)| (*set, *block, &users.reached[..], &users.unreached[..]))
+        })
+    }
+
     fn over_full(&self, blocks: &Blocks) -> bool {
         competing(blocks) > self.findings.known.header.ways
     }

@@ -56,3 +56,8 @@ pub fn sum(shares: &[Totals], loads: &[Load]) -> Totals {
 pub fn thousandths(part: u64, whole: u64) -> Option<u64> {
     (2 * 1000 * part + whole).checked_div(2 * whole)
 }
+
+/// Thousandths as they are told, as `17.2 %`.
+pub fn percent(thousandths: u64) -> String {
+    format!("{}.{} %", thousandths / 10, thousandths % 10)
+}

@@ -29,22 +29,31 @@ impl Summary {
         }
     }
 
-    pub fn write(&self, out: &mut Painted) {
-        let classes = [
+    /// How many touches there are of each class that a touch of a reached node can have.
+    pub fn touches(&self) -> [(Class, usize); 4] {
+        [
             (Class::Hit, self.hit),
             (Class::Miss, self.miss),
             (Class::Kept, self.kept),
             (Class::Unsure, self.unsure),
-        ];
+        ]
+    }
+
+    /// Bare steps and unreached nodes, each with its number.
+    pub fn nodes(&self) -> [String; 2] {
+        [
+            counted(self.steps, "bare step"),
+            counted(self.unreached, "unreached node"),
+        ]
+    }
+
+    pub fn write(&self, out: &mut Painted) {
         out.piece("touches", Some(Colour::Bold));
-        for (place, (class, touches)) in classes.into_iter().enumerate() {
+        for (place, (class, touches)) in self.touches().into_iter().enumerate() {
             out.piece(if place == 0 { ": " } else { ", " }, None);
             out.piece(format!("{touches} {class}"), Colour::of(class));
         }
-        let (steps, unreached) = (
-            counted(self.steps, "bare step"),
-            counted(self.unreached, "unreached node"),
-        );
+        let [steps, unreached] = self.nodes();
         out.line(format!("; {steps}, {unreached}"));
     }
 

@@ -3,6 +3,7 @@
 use crate::again::never_again;
 use crate::answer::Answer;
 use crate::bounded::{bounded, said, Bounded};
+use crate::fact::Saying;
 use crate::facts_words::sentences;
 use crate::findings::Findings;
 use crate::given::{without_visits, Given};
@@ -14,7 +15,7 @@ use crate::totals_json::json;
 use crate::totals_words::words;
 use crate::trouble::Trouble;
 use std::cmp::Reverse;
-use veilbuzz::{total, Costs};
+use veilbuzz::{total, Analysis, Costs};
 
 pub struct Totals<'a> {
     pub findings: &'a Findings<'a>,
@@ -47,29 +48,49 @@ pub struct Share {
 
 /// Costs that are given at the call go before those of the text.
 pub fn totals(known: &Known, hit: Option<u16>, miss: Option<u16>) -> Result<Answer, Trouble> {
-    let given = Given::of(known, hit, miss)?;
     let findings = Findings::of(known)?;
-    // where visits are not said whole, those that are can still be refused
-    let plain = plain(&findings, &given)?;
     let said = said(&findings);
-    let totals = Totals {
-        findings: &findings,
-        costs: given.costs,
-        plain: Some(plain).filter(|_| given.whole),
-        never_again: never_again(&findings),
-        bounded: said.as_ref().map(|said| bounded(&findings, given.costs, said)),
-    };
-    match &totals.bounded {
-        Some(bounded) if totals.plain.is_none() && bounded.says_nothing() => Err(unbounded(known, bounded)),
-        _ => Ok(Answer::new(words(&totals), json(&totals))),
+    let totals = Totals::of(&findings, said.as_deref(), hit, miss)?;
+    Ok(Answer::new(words(&totals), json(&totals)))
+}
+
+impl<'a> Totals<'a> {
+    /// The totals of a chart, and the bounds that follow from what its text says of walks, if it has facts.
+    pub fn of(
+        findings: &'a Findings<'a>,
+        said: Option<&'a [Saying]>,
+        hit: Option<u16>,
+        miss: Option<u16>,
+    ) -> Result<Totals<'a>, Trouble> {
+        let given = Given::of(findings.known, hit, miss)?;
+        // where visits are not said whole, those that are can still be refused
+        let plain = plain(findings, &given)?;
+        let totals = Totals {
+            findings,
+            costs: given.costs,
+            plain: Some(plain).filter(|_| given.whole),
+            never_again: never_again(findings),
+            bounded: said.map(|said| bounded(findings, given.costs, said)),
+        };
+        match &totals.bounded {
+            Some(bounded) if totals.plain.is_none() && bounded.says_nothing() => {
+                Err(unbounded(findings.known, bounded))
+            }
+            _ => Ok(totals),
+        }
     }
+}
+
+/// The low and the high total, as the proved function gives them.
+pub fn low_and_high(known: &Known, analysis: &Analysis, given: &Given) -> Result<veilbuzz::Totals, Trouble> {
+    let refused = |refusal| misgiven(known, given, refusal);
+    total(&known.chart, analysis.table(), given.costs, given.bounds()).map_err(refused)
 }
 
 fn plain(findings: &Findings, given: &Given) -> Result<Plain, Trouble> {
     let known = findings.known;
-    let refused = |refusal| misgiven(known, given, refusal);
-    let totals = total(&known.chart, findings.analysis.table(), given.costs, given.bounds()).map_err(refused)?;
-    let each = shares(findings, given).map_err(refused)?;
+    let totals = low_and_high(known, &findings.analysis, given)?;
+    let each = shares(findings, given).map_err(|refusal| misgiven(known, given, refusal))?;
     let loads = loads(findings, given);
     let sum = sum(&each, &loads);
     if sum != totals {

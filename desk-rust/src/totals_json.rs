@@ -33,11 +33,11 @@ pub fn json(totals: &Totals) -> Value {
     Value::Object(fields)
 }
 
-fn costs(Costs { hit, miss }: Costs) -> Value {
+pub fn costs(Costs { hit, miss }: Costs) -> Value {
     object([("hit", u64::from(hit).into()), ("miss", u64::from(miss).into())])
 }
 
-fn both(totals: veilbuzz::Totals) -> Value {
+pub fn both(totals: veilbuzz::Totals) -> Value {
     object([("low", totals.low.into()), ("high", totals.high.into())])
 }
 

@@ -4,7 +4,7 @@ use crate::findings::Findings;
 use crate::known::Visits;
 use crate::loads::Load;
 use crate::paint::Colour;
-use crate::shares::thousandths;
+use crate::shares::{percent, thousandths};
 use crate::table::{Cell, Side, Table};
 use crate::totals::{Plain, Share};
 use crate::words::{block, counted};
@@ -71,7 +71,7 @@ fn first_load(plain: &Plain, load: &Load) -> Row {
 
 /// A part of the high total.
 fn part(thousandths: Option<u64>) -> Cell {
-    let part = thousandths.map(|part| format!("{}.{} %", part / 10, part % 10));
+    let part = thousandths.map(percent);
     part.unwrap_or_default().into()
 }
 
@@ -80,7 +80,7 @@ fn adds_nothing(share: &Share) -> bool {
 }
 
 /// The classes of the touches that a node makes.
-fn classes(classes: [Class; TOUCHES]) -> Cell {
+pub fn classes(classes: [Class; TOUCHES]) -> Cell {
     match classes {
         [class, Class::None] | [class @ Class::Unreached, _] => Cell::coloured(class.to_string(), Colour::of(class)),
         [first, second] => format!("{first} {second}").into(),
@@ -88,7 +88,7 @@ fn classes(classes: [Class; TOUCHES]) -> Cell {
 }
 
 /// As a text says them.
-fn visits(Visits { floor, ceiling }: Visits) -> String {
+pub fn visits(Visits { floor, ceiling }: Visits) -> String {
     match floor == ceiling {
         true => floor.to_string(),
         false => format!("{floor}..{ceiling}"),

@@ -3,24 +3,23 @@
 use crate::cache::write_heading;
 use crate::facts_words::facts;
 use crate::given::without_visits;
+use crate::known::Known;
 use crate::paint::Painted;
 use crate::table::{Side, Table};
 use crate::totals::{Plain, Totals};
 use crate::totals_table::shares;
+use veilbuzz::Costs;
 
 pub fn words(totals: &Totals) -> Painted {
     let mut out = Painted::default();
     write_heading(totals.findings.known, &mut out);
-    out.line(format!(
-        "a hit costs {}, a miss {}",
-        totals.costs.hit, totals.costs.miss
-    ));
+    out.line(costs(totals.costs));
     out.line("");
     match &totals.plain {
         Some(both) => plain(totals, both, &mut out),
         None => out.line(format!(
-            "no totals without the facts: the visits of {} are not said",
-            without_visits(totals.findings.known)
+            "no totals without the facts: {}",
+            visits_not_said(totals.findings.known)
         )),
     }
     if !totals.never_again.is_empty() {
@@ -30,6 +29,15 @@ pub fn words(totals: &Totals) -> Painted {
         facts(totals, bounded, &mut out);
     }
     out
+}
+
+pub fn costs(Costs { hit, miss }: Costs) -> String {
+    format!("a hit costs {hit}, a miss {miss}")
+}
+
+/// Why there are no totals where there can be bounds.
+pub fn visits_not_said(known: &Known) -> String {
+    format!("the visits of {} are not said", without_visits(known))
 }
 
 fn plain(totals: &Totals, plain: &Plain, out: &mut Painted) {

@@ -24,6 +24,8 @@ pub const ANSWERED: u8 = 0;
 pub const REFUSED: u8 = 1;
 /// Where the call is wrong, or a file cannot be read or written.
 pub const NOT_ASKED: u8 = 2;
+/// After an answer, if a deadline is not met.
+pub const NOT_MET: u8 = 3;
 
 /// Whether the place of a refusal is a node (rule 11.0).
 fn at_a_node(refusal: &Refusal) -> bool {
@@ -35,6 +37,26 @@ impl Trouble {
         match self {
             Trouble::Text(..) | Trouble::Refused { .. } | Trouble::Unanswered { .. } => REFUSED,
             Trouble::Usage(_) | Trouble::Files(_) => NOT_ASKED,
+        }
+    }
+
+    /// The first thing that is wrong, in a sentence.
+    pub fn what(&self) -> String {
+        match self {
+            Trouble::Text(_, problems) => problems
+                .leading()
+                .map_or(String::new(), |problem| problem.found.clone()),
+            Trouble::Refused { refusal, .. } => refusal.to_string(),
+            Trouble::Unanswered { what, .. } | Trouble::Usage(what) | Trouble::Files(what) => what.clone(),
+        }
+    }
+
+    /// What may be done about that, where it is known.
+    pub fn mend(&self) -> Option<String> {
+        match self {
+            Trouble::Text(_, problems) => problems.leading()?.mend.clone(),
+            Trouble::Unanswered { mend, .. } => Some(mend.clone()),
+            _ => None,
         }
     }
 

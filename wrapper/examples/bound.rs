@@ -3,6 +3,7 @@
 //!
 //!     VEILBUZZ_ARCHIVE=$(tests/archive) cargo run --manifest-path tests/Cargo.toml -p veilbuzz --example bound
 
+use std::process::exit;
 use veilbuzz::{bound, total, Analysis, Bounds, Certificate, Costs, Facts, Refusal, Side};
 
 /// Its nodes are head, fork, left, right, tail and after.
@@ -33,7 +34,7 @@ fn certificate(potentials: &[i64]) -> Certificate<'_> {
     }
 }
 
-fn main() -> Result<(), Refusal> {
+fn print() -> Result<(), Refusal> {
     let analysis = Analysis::of(CHART)?;
     let totals = total(CHART, analysis.table(), COSTS, BOUNDS)?;
     println!("by the ceiling of each node: a walk costs no more than {}", totals.high);
@@ -48,8 +49,19 @@ fn main() -> Result<(), Refusal> {
 
     let mut too_small = POTENTIALS;
     too_small[4] -= 1;
-    if let Err(Refusal { number, place }) = high(&too_small) {
-        println!("the potential of tail one too small: refusal {number} at {place}");
+    if let Err(refusal) = high(&too_small) {
+        let Refusal { number, place } = refusal;
+        println!("the potential of tail one too small: refused {number} at {place}");
+        for words in [refusal.found(), refusal.mend()].into_iter().flatten() {
+            println!("  {words}");
+        }
     }
     Ok(())
+}
+
+fn main() {
+    if let Err(refusal) = print() {
+        eprintln!("{refusal}");
+        exit(1);
+    }
 }

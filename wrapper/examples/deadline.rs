@@ -2,6 +2,7 @@
 //!
 //!     VEILBUZZ_ARCHIVE=$(tests/archive) cargo run --manifest-path tests/Cargo.toml -p veilbuzz --example deadline
 
+use std::process::exit;
 use veilbuzz::{deadline, Analysis, Bounds, ClockSheet, Costs, Deadline, Judged, Refusal};
 
 const AS_BUILT: &[u8] = include_bytes!("../../charts/winch-as-built.chart");
@@ -29,7 +30,7 @@ fn judge(chart: &[u8], analysis: &Analysis, limits: Deadline) -> Result<Judged, 
     deadline(chart, analysis.table(), COSTS, bounds, SHEET, limits)
 }
 
-fn main() -> Result<(), Refusal> {
+fn print() -> Result<(), Refusal> {
     for (name, chart) in [("as built", AS_BUILT), ("swapped", SWAPPED)] {
         let analysis = Analysis::of(chart)?;
         let Judged { met, low, high } = judge(chart, &analysis, Deadline::Latest(LATEST))?;
@@ -44,8 +45,19 @@ fn main() -> Result<(), Refusal> {
         &Analysis::of(AS_BUILT)?,
         Deadline::Window { earliest, latest },
     );
-    if let Err(Refusal { number, place }) = answer {
-        println!("from {earliest} to {latest} us: refusal {number} at {place}");
+    if let Err(refusal) = answer {
+        let Refusal { number, place } = refusal;
+        println!("from {earliest} to {latest} us: refused {number} at {place}");
+        for words in [refusal.found(), refusal.mend()].into_iter().flatten() {
+            println!("  {words}");
+        }
     }
     Ok(())
+}
+
+fn main() {
+    if let Err(refusal) = print() {
+        eprintln!("{refusal}");
+        exit(1);
+    }
 }

@@ -3,6 +3,7 @@
 //!
 //!     VEILBUZZ_ARCHIVE=$(tests/archive) cargo run --manifest-path tests/Cargo.toml -p veilbuzz --example loop
 
+use std::process::exit;
 use veilbuzz::{analyse, check, read, total, Bounds, Buffers, Class, Costs, Refusal, Table, PASSES, TOUCHES};
 
 #[rustfmt::skip]
@@ -13,7 +14,7 @@ const CHART: [u8; 32] = [
     0x40, 0x00, 0x00, 0x00, 0x00, 0x00, 0x00, 0x00,
 ];
 
-fn main() -> Result<(), Refusal> {
+fn print() -> Result<(), Refusal> {
     let header = read(&CHART)?;
     let ages = header.nodes * header.blocks;
     let mut blocks = vec![0; header.blocks];
@@ -52,4 +53,11 @@ fn main() -> Result<(), Refusal> {
     let totals = total(&CHART, table, Costs { hit: 1, miss: 10 }, bounds)?;
     println!("totals {} and {}", totals.low, totals.high);
     Ok(())
+}
+
+fn main() {
+    if let Err(refusal) = print() {
+        eprintln!("{refusal}");
+        exit(1);
+    }
 }

@@ -2,6 +2,7 @@
 //!
 //!     VEILBUZZ_ARCHIVE=$(tests/archive) cargo run --manifest-path tests/Cargo.toml -p veilbuzz --example make
 
+use std::process::exit;
 use veilbuzz::{chart_of, Analysis, Fields, Heading, Refusal, Start};
 
 /// A bare step that leads nowhere.
@@ -24,7 +25,7 @@ const NODES: [Fields; 3] = [
     READ,
 ];
 
-fn main() -> Result<(), Refusal> {
+fn print() -> Result<(), Refusal> {
     // 16-byte lines, one set of two ways
     let heading = Heading {
         line: 4,
@@ -51,4 +52,11 @@ fn main() -> Result<(), Refusal> {
         println!("{node} {first} {second}");
     }
     Ok(())
+}
+
+fn main() {
+    if let Err(refusal) = print() {
+        eprintln!("{refusal}");
+        exit(1);
+    }
 }

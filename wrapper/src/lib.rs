@@ -5,7 +5,8 @@
 //!
 //! [`Analysis::of`] is the short way to a chart's classes, [`chart_of`] to a chart and [`fields_of`] back from it, with buffers of their
 //! own. [`read`], [`node`], [`blocks`], [`write`], [`analyse`], [`check`], [`total`], [`deadline`] and [`bound`] are the nine functions with
-//! buffers that the caller lends. `examples/loop.rs`, `examples/make.rs`, `examples/deadline.rs` and `examples/bound.rs` are whole programs.
+//! buffers that the caller lends. Where there is no answer there is a [`Refusal`], which has words for what was found and what to do.
+//! `examples/short.rs`, `examples/loop.rs`, `examples/make.rs`, `examples/deadline.rs` and `examples/bound.rs` are whole programs.
 //!
 //! The archive that is linked, libboundary.a, is looked for in the folder that VEILBUZZ_ARCHIVE names, or else in target/archive;
 //! `tests/archive` makes it and prints its folder.
@@ -28,6 +29,7 @@ pub mod raw;
 mod read;
 mod refusal;
 mod total;
+mod words;
 mod write;
 
 pub use analyse::{analyse, Buffers, Settled, Unsettled};
@@ -44,3 +46,6 @@ pub use read::{read, Header, Start};
 pub use refusal::Refusal;
 pub use total::{total, Bounds, Costs, Totals};
 pub use write::{write, Heading, NodeLists};
+
+/// The version: that of the C header, VEILBUZZ_VERSION, and of the desk too.
+pub const VERSION: &str = env!("CARGO_PKG_VERSION");

@@ -30,6 +30,11 @@ fn printed(example: &str) -> String {
 }
 
 #[test]
+fn the_short_way_prints_the_classes_of_the_loop() {
+    assert_eq!(printed("short"), "0 none none\n1 kept none\n2 hit none\n");
+}
+
+#[test]
 fn the_loop_prints_its_classes_and_its_totals() {
     // sections 14 and 10 of the rules
     assert_eq!(

@@ -4,6 +4,7 @@ use crate::golden;
 use crate::json::read;
 use crate::trying::{chain, known, trouble};
 use desk::args::asked;
+use desk::deadline::deadline;
 use desk::fact::FACTS;
 use desk::input::input;
 use desk::totals::totals;
@@ -42,7 +43,7 @@ fn told(trouble: &Trouble) -> Vec<String> {
     errors.iter().map(|error| error.at("code").text().to_string()).collect()
 }
 
-/// What is not answered, of every kind: golden texts, a node too many, what totals refuse, a chart of bytes, a wrong call, no file.
+/// What is not answered, of every kind: golden texts, a node too many, what totals and deadlines refuse, a chart of bytes, a wrong call, no file.
 fn troubles() -> Vec<Trouble> {
     let bytes = |folder: &str, name: &str| {
         let file = golden::folder(folder).join(format!("{name}.txt"));
@@ -58,6 +59,7 @@ fn troubles() -> Vec<Trouble> {
     ] {
         troubles.extend(totals(&known(&bytes("texts", name)), None, None).err());
     }
+    troubles.extend(deadline(&known(&bytes("texts", "due-period-of-0")), None, None).err());
     troubles.extend([chain(NODES + 1).as_bytes(), &[1]].map(trouble));
     troubles.push(trouble((chain(1) + &"fact n0 <= 1\n".repeat(FACTS + 1)).as_bytes()));
     troubles.extend(asked(vec!["nonsense".into()]).err());

@@ -4,6 +4,7 @@ use crate::golden::folder;
 use crate::running::{desk, said};
 use crate::trying::known;
 use desk::answer::Answer;
+use desk::compare::compare;
 use desk::report::report;
 use desk::totals::totals;
 use desk::trouble::Trouble;
@@ -28,6 +29,7 @@ fn colours_change_no_word() {
     let winch = fs::read(file("charts/winch-as-built.txt")).expect("the text can be read");
     let kinds = fs::read(folder("texts").join("all-kinds.txt")).expect("the text can be read");
     let mut answers: Vec<Result<Answer, Trouble>> = vec![];
+    answers.push(compare(&known(&winch), &known(&kinds), None, None));
     for text in [winch, kinds] {
         let known = known(&text);
         answers.push(report(&known));

@@ -6,9 +6,6 @@ use crate::trying::known;
 use desk::totals::totals;
 use reports::folder::{chart, text};
 use std::iter::repeat_n;
-use veilbuzz::Costs;
-
-const COSTS: Costs = Costs { hit: 1, miss: 10 };
 
 /// The low and the high bound that the desk tells, for the costs of the text.
 fn bounds(name: &str) -> [u64; 2] {
@@ -27,7 +24,10 @@ fn paid(name: &str, pieces: &[(&[usize], usize)]) -> u64 {
     let walk = pieces
         .iter()
         .flat_map(|(piece, times)| repeat_n(*piece, *times).flatten());
-    cost(&chart(name), &walk.copied().collect::<Vec<usize>>(), COSTS)
+    let costs = known(text(&format!("{name}.txt")).as_bytes())
+        .costs
+        .expect("there are costs");
+    cost(&chart(name), &walk.copied().collect::<Vec<usize>>(), costs)
 }
 
 #[test]
@@ -52,6 +52,6 @@ fn six_turns_over_clear_ground_and_four_over_rock_cost_what_the_high_bound_says(
     let clear = [8, 9, 10, 11, 12, 13, 17, 18];
     let rock = [8, 9, 10, 14, 15, 16, 17, 18];
     let [low, high] = bounds("winch-facts");
-    assert_eq!((low, high), (553, 634));
+    assert_eq!((low, high), (1093, 1264));
     assert_eq!(paid("winch-facts", &[(&power_on, 1), (&clear, 6), (&rock, 4)]), high);
 }

@@ -6,13 +6,20 @@ use reports::tree::text;
 use std::collections::BTreeSet;
 
 /// Calls whose answers have all fields that there are.
-const CALLS: [&str; 15] = [
+const CALLS: [&str; 22] = [
     "report charts/straddle.txt",
     "report charts/class-unreached.txt",
     "totals charts/loop.txt",
     "totals charts/branch.txt",
     "why charts/loop.txt turn",
     "why charts/winch-as-built.txt depth",
+    "compare charts/winch-as-built.txt charts/winch-swapped.txt",
+    "compare charts/loop.chart charts/branch.txt",
+    "compare charts/winch-as-built.txt charts/winch-facts.txt",
+    "deadline charts/winch-facts.txt",
+    "deadline desk-rust/tests/golden/texts/due-early-and-late.txt",
+    "draw charts/loop.txt -o loop.svg",
+    "page charts/loop.txt -o loop.html",
     "chart charts/loop.txt -o loop.chart",
     "text charts/loop.chart",
     "new",

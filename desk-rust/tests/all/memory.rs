@@ -1,6 +1,8 @@
 //! No memory beyond a few times the text: the desk answers within a limit that the shell sets, whatever the text is.
 
+use crate::place::Place;
 use crate::running::{said, DESK};
+use std::fs;
 use std::process::{Command, Stdio};
 
 /// The most that is read of a text.
@@ -69,6 +71,33 @@ fn the_longest_texts_take_a_few_times_their_length() {
             let said = said(within(ITSELF + TIMES * TEXT, option), &text);
             assert!(said.out.len() + said.err.len() > 100, "something is said");
         }
+    }
+}
+
+/// So many times both texts `compare` may take: 21 were measured, where a fact has two million terms.
+const TIMES_OF_BOTH: usize = 32;
+
+#[test]
+fn the_longest_pairs_take_a_few_times_their_length() {
+    let place = Place::new("longest-pairs");
+    let addresses = |to: &str| lines(HEAD, |number| format!("at a{number:x}={to}\n"));
+    let terms = |limit: &str| {
+        let mut text = lines(&format!("{HEAD}fact a"), |_| "+a".into());
+        text.truncate(text.len() - "+a+a".len());
+        [text, limit.into()].concat()
+    };
+    for (name, [one, other]) in [
+        ("addresses", ["0", "1"].map(addresses)),
+        ("terms", ["<=1", "<=2"].map(terms)),
+    ] {
+        fs::write(place.path(name), one).expect("a file can be written");
+        let limit = (ITSELF + TIMES_OF_BOTH * 2 * TEXT) >> 10;
+        let mut shell = Command::new("sh");
+        let line = format!("ulimit -v {limit}; exec \"$0\" compare \"$1\" -");
+        shell.arg("-c").arg(line).arg(DESK).arg(place.path(name));
+        let said = said(shell, &other);
+        assert_eq!((said.status, said.err.as_str()), (0, ""), "{name}");
+        assert!(said.out.contains("differ"), "{}", said.out);
     }
 }
 

@@ -1,16 +1,21 @@
-//! Every message that the sources have stands in a golden file, all of its words: what is not met there is met by no eye.
+//! Every message that the sources have stands in a golden file or a picture of the pages, all of its words: what is not met there is met by
+//! no eye.
 
 use crate::golden::{folder, names};
+use crate::pictures::PICTURES;
+use reports::program::file;
 use reports::tree::texts;
 use std::fs;
 
 /// What no golden file has: first what would be a fault of the desk itself or cannot be said as things are; then what has the most nodes in it,
 /// or is said with that. No file but the limits' own spells that number, so other tests meet these.
-const ELSEWHERE: [&str; 10] = [
+const ELSEWHERE: [&str; 12] = [
     "a chart reads back as it was given",
     "what the rules allow",
     "this must not be: rely on neither",
     "the totals are {} and {}",
+    "had laid out nothing after",
+    "another of Graphviz's programs",
     "this is one node too many",
     "lines of nodes, 'NAME: ..'",
     "'./desk refusal 5' says what can be done",
@@ -95,6 +100,7 @@ fn each_message_of_the_sources_is_in_a_golden_file() {
                 .into_iter()
                 .map(move |file| folder(name).join(file + end))
         })
+        .chain(PICTURES.map(|name| file(&format!("docs/{name}.svg"))))
         .map(|file| fs::read_to_string(file).expect("the file can be read"))
         .collect();
     let (mut met, mut elsewhere, mut nowhere) = (0, 0, vec![]);

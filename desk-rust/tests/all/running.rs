@@ -39,7 +39,7 @@ pub fn said(mut command: Command, input: &[u8]) -> Said {
         status: output.status.code().unwrap_or(-1),
     };
     assert!(
-        (0..=2).contains(&said.status),
+        (0..=3).contains(&said.status),
         "the desk ended with {}: {}",
         output.status,
         said.err

@@ -24,7 +24,7 @@ fn texts() -> Vec<Vec<u8>> {
 }
 
 /// A short text that has every line and every sign of the grammar, and a letter of two bytes.
-const EVERY_LINE: &str = "\
+pub const EVERY_LINE: &str = "\
 cache line 16 sets 8 ways 2 start empty
 cost hit 1 miss 10
 entry a
@@ -34,7 +34,7 @@ b:
 ";
 
 /// The same of lines of facts.
-const FACTS: &str = "\
+pub const FACTS: &str = "\
 cache line 16 sets 1 ways 1 start empty
 entry a
 a: -> b

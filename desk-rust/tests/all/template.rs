@@ -10,8 +10,11 @@ fn what_new_prints_is_answered() {
     for command in [
         "./desk report mine.txt",
         "./desk totals mine.txt",
+        "./desk deadline mine.txt",
         "./desk why mine.txt look",
         "./desk chart mine.txt -o mine.chart",
+        "./desk draw mine.txt -o mine.svg",
+        "./desk page mine.txt -o mine.html",
         "./desk report mine.chart",
     ] {
         let said = place.run(command);

@@ -13,7 +13,7 @@ use std::sync::atomic::{AtomicUsize, Ordering};
 use veilbuzz::{total, Analysis, Bounds, Class, Costs, Refusal, Totals};
 
 /// A chart with random visits and costs; mostly such as there can be.
-fn drawn(random: &mut Random, large: bool) -> Known {
+pub fn drawn(random: &mut Random, large: bool) -> Known {
     let chart = match large {
         true => of_any_size(random),
         false => of_at_most(random, 60),

@@ -39,13 +39,16 @@ const TOOLS: [&str; 23] = [
 ];
 
 /// The scripts, and what they run, as it is.
-const SCRIPTS: [&str; 10] = [
+const SCRIPTS: [&str; 13] = [
     "desk",
     "report",
     "tests/archive",
+    "tests/asking.sh",
+    "tests/desk",
     "tests/ended",
     "tests/native/module",
     "tests/native/object",
+    "tests/native/static",
     "tests/native/toolchain",
     "tests/program",
     "tests/proving.sh",

@@ -47,28 +47,40 @@ fn the_page_of_must_fail_edits_has_each_edit_and_no_other() {
     assert_eq!(told, there);
 }
 
+/// Holds the README to a block of these lines.
+fn shows(lines: &str) {
+    let set_in = lines
+        .lines()
+        .map(|line| format!("    {line}\n").replace("    \n", "\n"));
+    let block = format!("\n\n{}\n", set_in.collect::<String>());
+    assert!(
+        text("README.md").contains(&block),
+        "README.md does not show these lines:{block}"
+    );
+}
+
 #[test]
 fn the_readme_shows_what_the_examples_of_a_deadline_and_a_bound_print() {
     for printed in ["examples/deadline.stdout", "examples/bound.stdout"] {
-        let shown: String = text(printed).lines().map(|line| format!("    {line}\n")).collect();
-        assert!(
-            text("README.md").contains(&shown),
-            "README.md does not show these lines:\n{shown}"
-        );
+        shows(&text(printed));
     }
 }
 
 #[test]
-fn the_picture_of_facts_has_the_bounds_of_the_example() {
-    let (printed, picture) = (text("examples/bound.stdout"), text("docs/facts.svg"));
-    let bounds: Vec<&str> = printed
-        .lines()
-        .filter_map(|line| Some(line.rsplit_once("no more than ")?.1))
-        .collect();
-    assert_eq!(bounds.len(), 2);
-    for bound in bounds {
-        let shown = format!(">{bound}<");
-        assert!(picture.contains(&shown), "docs/facts.svg has no {shown}");
+fn the_readme_shows_the_short_way_in_rust() {
+    let example = text("wrapper/examples/short.rs");
+    let (_, source) = example.split_once("\n\n").expect("a head, and then the source");
+    shows(source);
+}
+
+#[test]
+fn the_readme_shows_how_the_examples_in_c_tell_a_refusal() {
+    for example in ["bound", "deadline", "loop", "make"] {
+        let source = text(&format!("examples/{example}.c"));
+        let parts: Vec<&str> = source.split("\n\n").collect();
+        let telling: Vec<&&str> = parts.iter().filter(|part| part.contains("veilbuzz_refusal_")).collect();
+        assert_eq!(telling.len(), 1, "examples/{example}.c tells a refusal in one place");
+        shows(telling[0]);
     }
 }
 

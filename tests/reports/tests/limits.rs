@@ -1,6 +1,7 @@
 //! The most nodes of rule 1.4, and what follows from them, stand once each in the definitions, the code, the second program (from which all tests
-//! take them), the wrapper, the C header and the table of that rule; README.md and REFUSALS.md have the most nodes too. No other text spells
-//! them, but for those that are left out below: it would go stale unseen when the limit moves.
+//! take them), the wrapper, the C header and the table of that rule; README.md and REFUSALS.md have the most nodes too, and the words of refusals
+//! the most nodes and enough passes. No other text spells them, but for those that are left out below: it would go stale unseen when the limit
+//! moves.
 
 use reports::numbers::{numbers, spelled};
 use reports::pages::cells;
@@ -56,19 +57,21 @@ const FORMER_WORDS: [&str; 7] = [
 ];
 
 /// Where they stand, and which of them.
-const PLACES: [(&str, &[usize]); 8] = [
-    ("README.md", &[NODES]),
+const PLACES: [(&str, &[usize]); 10] = [
+    ("README.md", &[NODES, NODES, PASSES]),
     ("crates/chart/specs/Geometry.antt", &[NODES]),
     ("crates/chart/src/shape.rt", &[NODES]),
     (REFUSALS, &[NODES]),
     (RULES, &[NODES, AGES, CLASSES, LONGEST, INPUT, PASSES]),
-    ("include/veilbuzz.h", &[NODES]),
+    ("desk-rust/tests/golden/sessions/new-and-refusal.session", &[NODES]),
+    ("include/veilbuzz.h", &[NODES, NODES, PASSES]),
     ("tests/second/src/limits.rs", &[NODES]),
     ("wrapper/src/limits.rs", &[NODES]),
+    ("wrapper/src/words.rs", &[NODES, PASSES]),
 ];
 
-/// Soundings, which the prover holds to the definitions, and texts of what was measured and of what has moved.
-const LEFT_OUT: [&str; 9] = [
+/// Soundings, which the prover holds to the definitions, texts of what was measured and of what has moved, and a picture with sizes of caches.
+const LEFT_OUT: [&str; 10] = [
     "crates/chart/specs/Sounded.antt",
     "crates/demands/specs/Anywhere.antt",
     "crates/demands/specs/Sounded.antt",
@@ -78,6 +81,7 @@ const LEFT_OUT: [&str; 9] = [
     "docs/growth.svg",
     "docs/landings/",
     "docs/speed.svg",
+    "docs/sweep.svg",
 ];
 
 /// The same numbers where they are no limits: weights of bits, an address, and a stack in KiB.

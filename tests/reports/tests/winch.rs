@@ -8,7 +8,7 @@ use second::limits::PASSES;
 use second::totals::{Bounds, Totals};
 use std::iter::repeat;
 
-const COSTS: Costs = Costs { hit: 1, miss: 10 };
+const COSTS: Costs = Costs { hit: 1, miss: 20 };
 
 /// From power on to the loop, then ten turns that see rock.
 fn ten_hauls() -> Vec<usize> {
@@ -63,15 +63,18 @@ fn the_readme_shows_both_reports_side_by_side() {
 
 #[test]
 fn the_pages_tell_what_ten_hauls_cost() {
-    let (page, front) = (text("README.md"), text("../README.md"));
-    for name in ["winch-as-built", "winch-swapped"] {
-        let Totals { low, high } = totals(name);
-        assert!(page.contains(&format!("{low} and {high}")), "{name}: {low} and {high}");
+    let [built, swapped] = ["winch-as-built", "winch-swapped"].map(totals);
+    for Totals { low, high } in [built, swapped] {
         assert!(
-            front.contains(&format!("costs {low} to {high}")),
-            "{name}: {low} to {high}"
+            text("README.md").contains(&format!("{low} and {high}")),
+            "{low} and {high}"
         );
     }
+    let caused = format!(
+        "low total {} -> {}, high total {} -> {}",
+        built.low, swapped.low, built.high, swapped.high
+    );
+    assert!(text("../README.md").contains(&caused), "{caused}");
 }
 
 #[test]

@@ -1,0 +1,1 @@
+"""The tests of python/veilbuzz.py and python/sweep.py; python/test runs them."""

@@ -31,10 +31,7 @@ pub fn input(path: &OsStr) -> Result<Input, Trouble> {
         let read = io::stdin().lock().take(MOST + 1).read_to_end(&mut bytes);
         ("standard input".to_string(), read)
     } else {
-        (
-            path.to_string_lossy().into_owned(),
-            open(path)?.take(MOST + 1).read_to_end(&mut bytes),
-        )
+        (called(path), open(path)?.take(MOST + 1).read_to_end(&mut bytes))
     };
     if let Err(error) = read {
         return Err(Trouble::Files(format!("{file} cannot be read: {error}")));
@@ -48,8 +45,20 @@ pub fn input(path: &OsStr) -> Result<Input, Trouble> {
     Ok(Input { file, bytes })
 }
 
+/// What a file is called in answers: a terminal is told no more than text.
+fn called(path: &OsStr) -> String {
+    let shown = |letter: char| {
+        if letter.is_control() {
+            char::REPLACEMENT_CHARACTER
+        } else {
+            letter
+        }
+    };
+    path.to_string_lossy().chars().map(shown).collect()
+}
+
 fn open(path: &OsStr) -> Result<File, Trouble> {
-    let file = path.to_string_lossy();
+    let file = called(path);
     if Path::new(path).is_dir() {
         return Err(Trouble::Files(format!(
             "{file} is a folder; name one chart, as in: ./desk report charts/loop.txt"

@@ -116,3 +116,16 @@ fn a_file_that_may_not_be_read_or_written_is_told() {
         assert!(said.err.contains(says), "{}", said.err);
     }
 }
+
+#[test]
+fn the_name_of_a_file_tells_a_terminal_nothing_but_text() {
+    let place = Place::new("odd-name");
+    let name = "a\x1B[31m\u{85}.txt";
+    fs::copy(place.path("charts/loop.txt"), place.path(name)).expect("it can be copied");
+    for command in ["report", "totals", "page -o -", "draw -o -", "draw --dot"] {
+        let said = place.run(&format!("./desk {command} '{name}'"));
+        assert_eq!(said.status, 0, "{}", said.err);
+        assert!(said.out.contains("a\u{FFFD}[31m\u{FFFD}.txt"), "{}", said.out);
+        assert!(!said.out.contains(['\x1B', '\u{85}']), "{}", said.out);
+    }
+}

@@ -1,5 +1,5 @@
-//! The pictures of the pages are those that the desk draws: byte for byte where Graphviz is of the version that they were made with, and else
-//! all of them but where each thing is.
+//! The pictures of the pages are those that the desk draws: byte for byte where Graphviz and the machine are of the kind that they were made
+//! with, and else all of them but where each thing is.
 
 use crate::dots::script;
 use crate::drawn::found;
@@ -13,6 +13,7 @@ use desk::picture::drawn;
 use desk::plan::Plan;
 use reports::program::file;
 use reports::tree::text;
+use std::env::consts::ARCH;
 use std::ffi::OsStr;
 use std::fs;
 use std::process::Command;
@@ -20,8 +21,9 @@ use std::process::Command;
 /// Each picture in docs/ that is of the chart of the same name.
 pub const PICTURES: [&str; 4] = ["winch-as-built", "winch-swapped", "loop", "branch"];
 
-/// What `dot -V` says of the version that they were made with.
+/// What `dot -V` says of the version that they were made with, and the kind of machine: another one may round otherwise.
 const MADE_WITH: &str = "graphviz version 2.43.0 ";
+const MADE_ON: &str = "x86_64";
 
 /// The attributes that say where something is, or how large.
 const PLACES: [&str; 10] = [
@@ -70,7 +72,7 @@ fn the_pages_pictures_are_those_that_the_desk_draws() {
         let there = text(&format!("docs/{name}.svg"));
         let mend = format!("run './desk draw charts/{name}.txt -o docs/{name}.svg', and look at it");
         assert_eq!(told(&read(&drawn)), told(&read(&there)), "docs/{name}.svg: {mend}");
-        if version.contains(MADE_WITH) {
+        if version.contains(MADE_WITH) && ARCH == MADE_ON {
             assert!(drawn == there, "docs/{name}.svg is laid out otherwise: {mend}");
         }
     }

@@ -1,11 +1,12 @@
 //! Which lines cause what differs: each alone is put in the place of its other version, and what that text says is worked out anew.
 
-use crate::compare::{Half, Lack};
+use crate::compare::Half;
 use crate::differing::Differing;
 use crate::due::Due;
 use crate::findings::{refused_in, Findings};
 use crate::given::Given;
 use crate::known::Known;
+use crate::lack::Lack;
 use crate::made::made;
 use crate::matched::{matched, Classed};
 use crate::source::{Source, Span};

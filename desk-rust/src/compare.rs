@@ -10,12 +10,12 @@ use crate::due::Due;
 use crate::fact::Saying;
 use crate::findings::Findings;
 use crate::known::Known;
+use crate::lack::Lack;
 use crate::matched::{matched, Classed, Matched};
 use crate::source::Source;
 use crate::statements::statements;
 use crate::texted::texted;
 use crate::totals::Totals;
-use crate::totals_words::visits_not_said;
 use crate::trouble::Trouble;
 use std::borrow::Cow;
 
@@ -37,13 +37,6 @@ pub struct Half<'a> {
     pub due: Option<Due<'a>>,
 }
 
-/// Why there are no totals, and what may be done about it.
-#[derive(Clone, PartialEq, Eq)]
-pub struct Lack {
-    pub what: String,
-    pub mend: Option<String>,
-}
-
 pub fn compare(one: &Known, other: &Known, hit: Option<u16>, miss: Option<u16>) -> Result<Answer, Trouble> {
     let findings = [Findings::of(one)?, Findings::of(other)?];
     let said = [said(&findings[0]), said(&findings[1])];
@@ -59,26 +52,6 @@ pub fn compare(one: &Known, other: &Known, hit: Option<u16>, miss: Option<u16>) 
         other,
     };
     Ok(Answer::new(words(&comparison), json(&comparison)))
-}
-
-impl Lack {
-    /// Without the name of the chart's file.
-    pub fn of(known: &Known, trouble: &Trouble) -> Lack {
-        let what = trouble.what();
-        let bare = what.strip_prefix(&format!("{}: ", known.file));
-        Lack {
-            what: bare.map_or(what.clone(), String::from),
-            mend: trouble.mend(),
-        }
-    }
-
-    /// Facts make up for visits that are not said, but for totals they do not.
-    pub fn of_visits(known: &Known) -> Lack {
-        Lack {
-            what: visits_not_said(known),
-            mend: None,
-        }
-    }
 }
 
 impl<'a> Comparison<'a> {

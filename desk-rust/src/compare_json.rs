@@ -2,9 +2,10 @@
 
 use crate::cache::Cache;
 use crate::causes::Alone;
-use crate::compare::{Comparison, Half, Lack};
+use crate::compare::{Comparison, Half};
 use crate::facts_json::side;
 use crate::json::{list, object, Value};
+use crate::lack::Lack;
 use crate::source::Source;
 use crate::statements::Statement;
 use crate::totals_json::{both, costs};

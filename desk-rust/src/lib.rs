@@ -62,6 +62,7 @@ pub mod help;
 pub mod input;
 pub mod json;
 pub mod known;
+pub mod lack;
 pub mod laid;
 pub mod legend;
 pub mod lettering;

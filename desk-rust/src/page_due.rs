@@ -3,7 +3,7 @@
 use crate::deadline_words::{beside, clock, limits, reason, rows, verdict as word};
 use crate::due::Due;
 use crate::markup::escaped;
-use crate::page_html::{Missing, Told};
+use crate::page_html::Told;
 use crate::page_totals::soft;
 use crate::time::column;
 
@@ -22,9 +22,9 @@ pub fn verdict(due: &Told<Due>) -> String {
                 escaped(&reason(due))
             )
         }
-        Err(Missing { what, .. }) => format!(
-            "<p class=\"verdict unsaid\">No verdict on a deadline. {}.</p>\n",
-            escaped(what)
+        Err(lack) => format!(
+            "<p class=\"verdict unsaid\">No verdict on a deadline: {}.</p>\n",
+            escaped(&lack.words())
         ),
     }
 }
@@ -42,7 +42,8 @@ pub fn figures(due: &Due) -> String {
         .collect();
     let sentences: String = due.sentences.iter().map(|sentence| soft(sentence)).collect();
     format!(
-        "<p>Deadline: {}, which is <b>{}</b>. Here {}.</p>\n<table class=\"small\">\n<thead><tr><th></th><th class=\"number\">cycles</th><th class=\"number\">us</th></tr></thead>\n\
+        "<p>Deadline: {}, which is <b>{}</b>. Here {}.</p>\n<table class=\"small\">\n\
+         <thead><tr><th></th><th class=\"number\">cycles</th><th class=\"number\">us</th></tr></thead>\n\
          <tbody>\n{rows}</tbody></table>\n{sentences}",
         escaped(&limits(&due.limits)),
         word(due).0,

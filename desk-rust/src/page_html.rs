@@ -4,6 +4,8 @@ use crate::bounded::said;
 use crate::cache::Cache;
 use crate::due::Due;
 use crate::findings::Findings;
+use crate::known::Known;
+use crate::lack::Lack;
 use crate::markup::escaped;
 use crate::page_assured::assured;
 use crate::page_due::{figures, verdict};
@@ -17,19 +19,13 @@ use crate::trouble::Trouble;
 const STYLE: &str = include_str!("page.css");
 
 /// What there is to tell, or what is missing for it.
-pub type Told<T> = Result<T, Missing>;
-
-/// What is missing, and what to do.
-pub struct Missing {
-    pub what: String,
-    pub mend: String,
-}
+pub type Told<T> = Result<T, Lack>;
 
 /// The page of a chart. What cannot be told of it is said on the page; what is refused is refused here too.
 pub fn html(findings: &Findings, hit: Option<u16>, miss: Option<u16>) -> Result<String, Trouble> {
     let said = said(findings);
-    let totals = told(&findings.known.file, Totals::of(findings, said.as_deref(), hit, miss))?;
-    let due = told(&findings.known.file, Due::of(findings, hit, miss))?;
+    let totals = told(findings.known, Totals::of(findings, said.as_deref(), hit, miss))?;
+    let due = told(findings.known, Due::of(findings, hit, miss))?;
     let file = escaped(&findings.known.file);
     let cache = escaped(&Cache::of(&findings.known.header).words());
     let sections = [
@@ -73,17 +69,10 @@ fn at_the_call(hit: Option<u16>, miss: Option<u16>) -> String {
 }
 
 /// Something that is missing is told on the page; any other trouble is one of the whole.
-fn told<T>(file: &str, found: Result<T, Trouble>) -> Result<Told<T>, Trouble> {
+fn told<T>(known: &Known, found: Result<T, Trouble>) -> Result<Told<T>, Trouble> {
     match found {
         Ok(found) => Ok(Ok(found)),
-        Err(Trouble::Unanswered { what, mend }) => {
-            // the page has the file's name at its head
-            let what = what
-                .strip_prefix(&format!("{file}: "))
-                .map(String::from)
-                .unwrap_or(what);
-            Ok(Err(Missing { what, mend }))
-        }
+        Err(missing @ Trouble::Unanswered { .. }) => Ok(Err(Lack::of(known, &missing))),
         Err(trouble) => Err(trouble),
     }
 }
@@ -96,11 +85,6 @@ fn section(id: &str, heading: &str, inside: &str) -> String {
 fn or_missing<T>(told: &Told<T>, tell: fn(&T) -> String) -> String {
     match told {
         Ok(found) => tell(found),
-        Err(Missing { what, mend }) => missing(what, mend),
+        Err(lack) => soft(&lack.words()),
     }
-}
-
-/// That something is missing, and what to do.
-pub fn missing(what: &str, mend: &str) -> String {
-    soft(&format!("{what}. To have it: {mend}"))
 }

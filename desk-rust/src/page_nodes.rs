@@ -53,7 +53,8 @@ fn row(findings: &Findings, number: usize) -> String {
     let classes = &findings.analysis.classes[number][..touches.len().max(1)];
     let each = |tell: fn(&Touch) -> String| touches.iter().map(tell).collect::<Vec<_>>().join("<br/>");
     format!(
-        "<tr><td><b>{}</b>{entry}</td><td>{}</td><td>{}</td><td>{to}</td><td class=\"place\">{}</td><td class=\"number\">{}</td><td class=\"number\">{}</td></tr>\n",
+        "<tr><td><b>{}</b>{entry}</td><td>{}</td><td>{}</td><td>{to}</td><td class=\"place\">{}</td><td class=\"number\">{}</td>\
+         <td class=\"number\">{}</td></tr>\n",
         escaped(&node.name),
         classes.iter().map(|class| mark(*class)).collect::<Vec<_>>().join("<br/>"),
         escaped(&doing(node)),

@@ -1,8 +1,9 @@
 //! The picture on a page. One that would be too small to read on a sheet is not printed.
 
 use crate::findings::Findings;
-use crate::page_html::missing;
-use crate::picture::{picture, Undrawn};
+use crate::lack::Lack;
+use crate::page_totals::soft;
+use crate::picture::picture;
 
 /// The room that a sheet of A4 has for it, in places of a picture at its own size, without margins and heading.
 const SHEET: [f64; 2] = [700.0, 920.0];
@@ -18,7 +19,7 @@ pub fn drawn(findings: &Findings) -> String {
             "<div class=\"picture large\">{picture}</div>\n\
              <p class=\"soft printed\">The picture is too large for a sheet of paper: <code>./desk draw FILE -o X.svg</code> draws it by itself.</p>\n"
         ),
-        Err(Undrawn { what, mend }) => missing(&what, &mend),
+        Err(undrawn) => soft(&Lack::of(findings.known, &undrawn.into()).words()),
     }
 }
 

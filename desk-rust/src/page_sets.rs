@@ -17,8 +17,8 @@ pub fn sets(findings: &Findings) -> String {
         .map(|set| field(word, set, map.competing_in(set), ways))
         .collect();
     let legend = format!(
-        "<p>In each field: the set's number, and how many blocks compete for the {} of that set. Over-full, and striped, is a set with more blocks than ways: a block \
-         there can be pushed out before its turn comes again. The darkest have more than twice as many.</p>\n",
+        "<p>In each field: the set's number, and how many blocks compete for the {} of that set. Over-full, and striped, is a set with more blocks \
+         than ways: a block there can be pushed out before its turn comes again. The darkest have more than twice as many.</p>\n",
         counted(ways, "way")
     );
     format!(

@@ -9,6 +9,7 @@ use desk::known::Known;
 use desk::page_html::html;
 use desk::sha256::sha256;
 use reports::program::file;
+use reports::tree::text;
 use std::fs;
 use veilbuzz::VERSION;
 
@@ -229,6 +230,9 @@ fn nothing_is_claimed_of_what_there_is_not() {
             "{untold:?}: {claims}"
         );
     }
+    let crossed = text("desk-rust/tests/golden/texts/due-bounds-crossed.txt");
+    let why = "No verdict on a deadline: whether the deadline is met cannot be told; no walk keeps all facts";
+    assert!(page(&made(&crossed)).contains(why));
 }
 
 #[test]

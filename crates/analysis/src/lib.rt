@@ -1,5 +1,7 @@
 // The analysis: makes passes over a chart until its table settles, and leaves blocks, ages, marks and classes in five lent buffers. It refuses with
 // the first of 1 to 12 that applies; what is left then, rule 12.3 says.
+#![tactic(auto)]
+
 mod buffers;
 mod settled;
 

@@ -1,5 +1,7 @@
 // Sets of small numbers as bits, 64 to a word: one is put in, one is taken out, and the first from a place on is found. Callers keep that the words
 // reach as far. Nothing is refused here.
+#![tactic(auto)]
+
 ghost use Rattle.std.specs.Prelude.{true, ◌≡◌, ◌*◌, ◌^◌, ◌≤◌, ◌<◌, min, length};
 ghost use Rattle.bits.specs.Bits.{is_member, with_member, without_member, FirstFrom};
 

@@ -1,6 +1,8 @@
 // Ascending lists of blocks, in arrays that the caller lends: the place of a block, how many there are when one is put in (rule 3.4), and a list
 // written into a buffer that has room for it.
 // Nothing is refused here: callers keep lists that ascend, and look whether there are more blocks than they have places for.
+#![tactic(auto)]
+
 ghost use Rattle.std.specs.Prelude.{cond, ◌≡◌, ◌∷◌, ◌+◌, ◌-◌, ◌≤◌, ◌<◌, length, take, drop, get_or, ltb};
 ghost use Rattle.std.proofs.Math.Seq.{paste};
 ghost use Rattle.lists.specs.Loops.{patch};

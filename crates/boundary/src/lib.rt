@@ -5,6 +5,8 @@
 // another, and that nobody else writes to one meanwhile, or reads what is written. A pointer whose length is 0 may be null. For `veilbuzz_deadline`
 // he answers for it too that the processor rounds floats to nearest, ties to even, and takes small ones as they are: IEEE 754's own way, and what a
 // process begins with.
+#![tactic(auto)]
+
 mod analysing;
 mod bounding;
 mod checking;

@@ -1,1 +1,2 @@
 // The plain cache, and the must and may ages that bound it: definitions and their laws, no code.
+#![tactic(auto)]

@@ -1,6 +1,8 @@
 // The bound of a certificate: answers what no walk that keeps some facts costs more than, or less than, by a certificate that is lent; or refuses with the
 // first of 1 to 11, 13, 15 and 23 to 25 that applies. A certificate that fails is refused and never mended. It looks at the used parts of the table
 // alone, and writes to nothing that is lent.
+#![tactic(auto)]
+
 mod holding;
 mod loading;
 mod topping;

@@ -2,6 +2,8 @@
 // header alone, or the first of refusals 1 to 8. `node_at` answers what a node does, and `fields_at` its record's fields, of bytes that hold it.
 // `header_of` and `record_keeps` ask the rules of any fields, and `gather` lists the blocks of records that keep them. `Geometry` answers, for any
 // shape, which block an address lies in and which set a block belongs to.
+#![tactic(auto)]
+
 mod gathering;
 mod headers;
 mod readings;

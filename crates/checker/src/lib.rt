@@ -1,5 +1,7 @@
 // The checker: answers yes or no, whether a lent table passes (rule 7.7), or refuses with the first of 1 to 11 that applies. It looks at the used
 // parts of the table alone, and writes to nothing that is lent.
+#![tactic(auto)]
+
 mod allowing;
 mod fitting;
 mod passing;

@@ -1,1 +1,2 @@
 // The classes of touches and nodes: definitions and laws, no code.
+#![tactic(auto)]

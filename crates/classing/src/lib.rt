@@ -1,6 +1,8 @@
 // Works out the two classes of each node of a lent table (rules 8.1 and 8.2), for the analysis, which leaves them, and the totals, which sum by them:
 // first by the ages alone, and then what is unsure by the sets since. Callers keep that there is room for the table, and for the classes. Nothing is
 // refused here.
+#![tactic(auto)]
+
 mod refining;
 mod wanting;
 

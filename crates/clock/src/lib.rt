@@ -1,6 +1,8 @@
 // What the surveyor reads: a total in microseconds by a clock sheet, and whether a deadline is met. `figure` is an inner function, whose callers
 // keep that a total is below 2^53. All of them answer for any floats, NaNs too; `deadline` asks for figures only where refusal 18 does not apply.
 // Nothing is refused here.
+#![tactic(auto)]
+
 ghost use Rattle.std.specs.Prelude.{◌≡◌, ◌^◌, ◌<◌};
 ghost use Rattle.std.specs.Float.Ieee.{eq};
 ghost use Rattle.clock.specs.Clock.{zero_time, figure_of, improper, impossible, limits_impossible, meets};

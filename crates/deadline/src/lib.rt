@@ -1,5 +1,7 @@
 // The deadline: answers whether a lent table's totals, in microseconds by a clock sheet, meet a deadline, with both figures; or refuses with the
 // first of 1 to 11 and 13 to 18 that applies. It writes to nothing that is lent.
+#![tactic(auto)]
+
 ghost use Rattle.std.specs.Prelude.{◌≡◌, ◌^◌, ◌<◌};
 ghost use Rattle.tables.specs.Contract.{entry_table};
 ghost use Rattle.totals.specs.Totals.{entry_figures};

@@ -1,5 +1,7 @@
 // From any bytes to the plan of their chart, in two flat lists that the caller lends. The answer is the reader's, refusals 1 to 10 too; after a
 // refusal nothing is said of the lists. Callers lend room for the largest plan.
+#![tactic(auto)]
+
 mod columns;
 mod head;
 mod nodes;

@@ -1,6 +1,8 @@
 // Facts about a walk and certificates, as far as they are lists of whole numbers: their ranges, multipliers times numbers, nodes that are ruled out, and
 // potentials. Nothing here knows of charts. `in_range` takes any lists; callers of the others keep that lists are long enough, and numbers in their
 // ranges. Nothing is refused here.
+#![tactic(auto)]
+
 mod comparing;
 mod parts;
 mod ranges;

@@ -1,5 +1,7 @@
 // What stands in a chart, for callers who want to see it: `read_node` answers the fields of one node's record, and `read_blocks` the list of the
 // blocks. Both read the whole chart first, and refuse what `chart::read` refuses; `read_blocks` gives 11 too, for a list that is too short.
+#![tactic(auto)]
+
 ghost use Rattle.std.specs.Prelude.{◌≡◌};
 ghost use Rattle.fields.specs.Fields.{node_read, node_says, read_node_says, blocks_read, blocks_say, read_blocks_say, exit_blocks};
 

@@ -1,5 +1,7 @@
 // A plan in two flat lists, which the functions on tables are handed: `columns` has what they need of each block, `plan` the rest. The functions
 // answer what `plan` says of the whole and of a node, whatever numbers stand there. None refuses: callers keep that the list reaches as far.
+#![tactic(auto)]
+
 ghost use Rattle.std.specs.Prelude.{◌≡◌, ◌+◌, ◌≤◌, ◌<◌, length};
 ghost use Rattle.plan.specs.Listed.{nodes_in, blocks_in, entry_in, empty_in, planned_of, node_place, node_in};
 

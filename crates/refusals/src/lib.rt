@@ -1,4 +1,6 @@
 // What the tool answers when it refuses: which refusal it is, and of each its number and its place. Both answer for every refusal.
+#![tactic(auto)]
+
 ghost use Rattle.std.specs.Prelude.{◌≡◌};
 ghost use Rattle.refusals.specs.Refusals.{number_of, place_of};
 

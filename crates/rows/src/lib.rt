@@ -1,6 +1,8 @@
 // Ages: answers a row of the start's (rule 6.2), tells those of a row after a touch (rules 6.3 and 6.4), and answers one age after a touch. As many
 // places are worked out as the caller says, also those without a block. None of the functions refuses: callers keep that the columns are there, and
 // that what is touched is one of them.
+#![tactic(auto)]
+
 ghost use Rattle.std.specs.Prelude.{◌≡◌, suc, ◌+◌, ◌*◌, ◌≤◌, ◌<◌, min, cond, length};
 ghost use Rattle.chart.specs.Geometry.{most_blocks};
 ghost use Rattle.cache.specs.Ages.{must_grown, may_grown, start_ages};

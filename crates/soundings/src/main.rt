@@ -1,6 +1,8 @@
 // A program that runs the sounding of the totals: the loop chart is analysed, its table checked, its totals taken and held to a deadline. It reads
 // a record that writes, and stands on the proofs of the three demands, of deadlines, of certificates, of the round trip and of the soundings. It
 // takes no input, and prints the same each time.
+#![tactic(auto)]
+
 mod demanded;
 mod sounding;
 

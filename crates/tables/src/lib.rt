@@ -1,6 +1,8 @@
 // Rows of a table in lent buffers: told as they are after a record (rules 3.3 and 6.3 to 6.5), filled, or met into what is there (rules 6.6 and 9.4).
 // None of the functions refuses: callers keep that the places lie within the buffers. Nothing is written into a table but the places that are named, and
 // the mark of a row that is met into.
+#![tactic(auto)]
+
 ghost use Rattle.std.specs.Prelude.{false, ◌≡◌, ◌+◌, ◌*◌, ◌≤◌, ◌<◌, max, min, length};
 ghost use Rattle.lists.specs.Loops.{patch};
 ghost use Rattle.chart.specs.Geometry.{most_blocks};

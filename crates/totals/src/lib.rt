@@ -1,5 +1,7 @@
 // The totals: answers the low and the high total of a lent table, or refuses with the first of 1 to 11 and 13 to 17 that applies. It looks at the
 // used parts of the table alone, and writes to nothing that is lent.
+#![tactic(auto)]
+
 mod bounds;
 mod charging;
 mod sums;

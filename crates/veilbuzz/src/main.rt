@@ -1,6 +1,8 @@
 // The program: a chart on standard input, its report on standard output, its ending on a descriptor of its own (rules 13.1 to 13.3). Every input
 // has a text and an ending; where not all of the text could be written, the ending tells so. The status itself is set by what starts the program
 // (tests/ended).
+#![tactic(auto)]
+
 use libc::{STDIN_FILENO, STDOUT_FILENO};
 
 // A program cannot set its exit status; what starts it reads it here (tests/ended). Where that is closed, nothing is told: so whoever starts

@@ -1,0 +1,22 @@
+use mathlib.Core.Logic.{⊎_elim}
+use native.Mathlib.Omega.{arith}
+use Rattle.blocks.proofs.Arrays.{listing-size, put-place, put-there, put-over, put-new}
+use Rattle.blocks.proofs.put_block.Goals as goal
+
+pub returns-then-blocks-place : goal.returns-then-blocks-place
+returns-then-blocks-place c = let q = c.place_in-place in
+    put-there c.args.most c.args.count c.args.blocks.now c.args.block q.result c.requires q.ensures c.if-place-count.true c.if-blocks-place.true
+
+pub returns-then-most-count : goal.returns-then-most-count
+returns-then-most-count c = let q = c.place_in-place in
+    put-over c.args.most c.args.count c.args.blocks.now c.args.block q.result c.requires q.ensures (⊎_elim (λ w h e. w.2.left e) (λ w h e. omega (arith, w.left, h)) c.if-place-count.branch) c.if-most-count.true
+
+pub shift_in-requires : goal.shift_in-requires
+shift_in-requires c = let q = c.place_in-place in
+    let e = listing-size c.args.most c.args.count c.args.blocks.now c.requires in
+    let h = put-place c.args.most c.args.count c.args.blocks.now c.args.block q.result c.requires q.ensures in
+    (omega arith, omega (arith, c.if-most-count.false))
+
+pub returns : goal.returns
+returns c = let q = c.place_in-place in
+    put-new c.args.most c.args.count c.args.blocks.now c.args.block q.result c.requires q.ensures (⊎_elim (λ w h e. w.2.left e) (λ w h e. omega (arith, w.left, h)) c.if-place-count.branch) c.if-most-count.false c.shift_in.new.0 c.shift_in.ensures

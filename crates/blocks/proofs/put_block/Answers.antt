@@ -2,6 +2,7 @@ use mathlib.Core.Logic.{⊎_elim}
 use native.Mathlib.Omega.{arith}
 use Rattle.blocks.proofs.Arrays.{listing-size, put-place, put-there, put-over, put-new}
 use Rattle.blocks.proofs.put_block.Goals as goal
+use Rattle.blocks.proofs.put_block.Goals.{then-place-count+else-blocks-place, else-place-count}
 
 pub returns-then-blocks-place : goal.returns-then-blocks-place
 returns-then-blocks-place c = let q = c.place_in-place in
@@ -9,7 +10,7 @@ returns-then-blocks-place c = let q = c.place_in-place in
 
 pub returns-then-most-count : goal.returns-then-most-count
 returns-then-most-count c = let q = c.place_in-place in
-    put-over c.args.most c.args.count c.args.blocks.now c.args.block q.result c.requires q.ensures (⊎_elim (λ w h e. w.2.left e) (λ w h e. omega (arith, w.left, h)) c.if-place-count.branch) c.if-most-count.true
+    put-over c.args.most c.args.count c.args.blocks.now c.args.block q.result c.requires q.ensures (elim c.if-place-count.branch [ then-place-count+else-blocks-place w ↦ λ h e. w.if-blocks-place.false e | else-place-count w ↦ λ h e. omega (arith, w.if-place-count.false, h) ]) c.if-most-count.true
 
 pub shift_in-requires : goal.shift_in-requires
 shift_in-requires c = let q = c.place_in-place in
@@ -19,4 +20,4 @@ shift_in-requires c = let q = c.place_in-place in
 
 pub returns : goal.returns
 returns c = let q = c.place_in-place in
-    put-new c.args.most c.args.count c.args.blocks.now c.args.block q.result c.requires q.ensures (⊎_elim (λ w h e. w.2.left e) (λ w h e. omega (arith, w.left, h)) c.if-place-count.branch) c.if-most-count.false c.shift_in.new.0 c.shift_in.ensures
+    put-new c.args.most c.args.count c.args.blocks.now c.args.block q.result c.requires q.ensures (elim c.if-place-count.branch [ then-place-count+else-blocks-place w ↦ λ h e. w.if-blocks-place.false e | else-place-count w ↦ λ h e. omega (arith, w.if-place-count.false, h) ]) c.if-most-count.false c.shift_in.new.blocks c.shift_in.ensures

@@ -13,7 +13,7 @@ use facts::{Parts, Side};
 use totals::Tariff;
 
 // The side of a bound, what a hit and a miss cost, and the denominator.
-#[derive(Drop)]
+#[derive(Clone, Copy)]
 pub(crate) struct Price {
     pub side: Side,
     pub tariff: Tariff,

@@ -10,7 +10,7 @@ use crate::words::{bits, word_at};
 use refusals::Refusal;
 
 // The header's fields. They are as wide as a word, so that the rules can be asked of values that do not fit their field.
-#[derive(Drop)]
+#[derive(Clone, Copy)]
 pub struct HeaderFields {
     pub edition: u64,
     pub line: u64,
@@ -24,7 +24,7 @@ pub struct HeaderFields {
 }
 
 // What the cache holds when a walk begins.
-#[derive(Drop)]
+#[derive(Clone, Copy)]
 pub enum Start {
     Unknown,
     Empty,
@@ -43,7 +43,7 @@ impl Start {
 }
 
 // What a header says that is accepted.
-#[derive(Drop)]
+#[derive(Clone, Copy)]
 pub struct Header {
     pub geometry: Geometry,
     pub start: Start,

@@ -9,7 +9,7 @@ ghost use Rattle.chart.specs.Chart.{records_in, node_at, first_broken};
 use crate::words::{bits, word_at};
 
 // A record's fields. They are as wide as a word, so that the rules can be asked of values that do not fit their field.
-#[derive(Drop)]
+#[derive(Clone, Copy)]
 pub struct RecordFields {
     pub kind: u64,
     pub address: u64,
@@ -20,28 +20,28 @@ pub struct RecordFields {
 }
 
 // A read or a write (rule 2.2), from its first byte to its last (rule 2.10). A record that is refused may end past 32 bits.
-#[derive(Drop)]
+#[derive(Clone, Copy)]
 pub struct Reference {
     pub write: bool,
     pub address: u32,
     pub last: u64,
 }
 
-#[derive(Drop)]
+#[derive(Clone, Copy)]
 pub enum Record {
     Step,
     Reference(Reference),
 }
 
 // How many arrows lead out of a node, and where to.
-#[derive(Drop)]
+#[derive(Clone, Copy)]
 pub struct Targets {
     pub outs: usize,
     pub first: usize,
     pub second: usize,
 }
 
-#[derive(Drop)]
+#[derive(Clone, Copy)]
 pub struct Node {
     pub what: Record,
     pub targets: Targets,

@@ -4,7 +4,7 @@ ghost use Rattle.std.specs.Prelude.{◌≡◌};
 ghost use Rattle.chart.specs.Geometry.{block_of, set_of};
 
 // A line is 2^line bytes, there are 2^sets sets of `ways` ways.
-#[derive(Drop)]
+#[derive(Clone, Copy)]
 pub struct Geometry {
     pub line: u8,
     pub sets: u8,

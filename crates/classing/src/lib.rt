@@ -48,7 +48,7 @@ fn class_of(limit: u8, must: u8, may: u8) -> u8
 }
 
 // The must and the may age of one block.
-#[derive(Drop)]
+#[derive(Clone, Copy)]
 pub(crate) struct Pair {
     pub must: u8,
     pub may: u8,

@@ -8,14 +8,14 @@ ghost use Rattle.std.specs.Float.Ieee.{eq};
 ghost use Rattle.clock.specs.Clock.{zero_time, figure_of, improper, impossible, limits_impossible, meets};
 
 // Rule 17.1: how long a cycle takes, and what is added once, both in microseconds.
-#[derive(Drop)]
+#[derive(Clone, Copy)]
 pub struct ClockSheet {
     pub period: f64,
     pub overhead: f64,
 }
 
 // Rule 17.2: no limit, a latest time, or an earliest and a latest time, in microseconds.
-#[derive(Drop)]
+#[derive(Clone, Copy)]
 pub enum Deadline {
     None,
     Latest(f64),

@@ -7,7 +7,7 @@ ghost use Rattle.facts.specs.Inner.{SmallLeft, PlaceIn, start_by, arrow_by, high
 use crate::parts::{above_at, below_at};
 
 // A whole number: what it is above 0 less what it is below.
-#[derive(Drop)]
+#[derive(Clone, Copy)]
 pub struct Parts {
     pub above: u64,
     pub below: u64,

@@ -16,7 +16,7 @@ pub use ruling::write_openings;
 pub use weighing::weigh;
 
 // Which bound it is: one that no walk costs more than, or one that none costs less than.
-#[derive(Drop)]
+#[derive(Clone, Copy)]
 pub enum Side {
     High,
     Low,

@@ -3,7 +3,7 @@ ghost use Rattle.std.specs.Prelude.{◌≡◌, ◌+◌, ◌^◌, ◌<◌, max, m
 ghost use Rattle.keeping.specs.Work.{span_with};
 
 // Where nodes that are due stand: from the node at hand to before `to`, or from `low` to before `high`.
-#[derive(Drop)]
+#[derive(Clone, Copy)]
 pub struct Span {
     pub to: usize,
     pub low: usize,

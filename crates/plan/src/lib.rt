@@ -24,7 +24,7 @@ pub const HEAD: usize = 4;
 pub const NODE: usize = 3;
 
 // A reference by the columns of its lower and its upper block; they are one column where it is within one line.
-#[derive(Drop)]
+#[derive(Clone, Copy)]
 pub struct ColumnTouches {
     pub lower: usize,
     pub upper: usize,
@@ -32,14 +32,14 @@ pub struct ColumnTouches {
 }
 
 // What a record does: a bare step, or a reference.
-#[derive(Drop)]
+#[derive(Clone, Copy)]
 pub enum PlannedRecord {
     Step,
     Reference(ColumnTouches),
 }
 
 // What a node does, and where its arrows lead.
-#[derive(Drop)]
+#[derive(Clone, Copy)]
 pub struct PlannedNode {
     pub what: PlannedRecord,
     pub targets: Targets,

@@ -5,7 +5,7 @@ ghost use Rattle.std.specs.Prelude.{◌≡◌};
 ghost use Rattle.refusals.specs.Refusals.{number_of, place_of};
 
 // The refusals in the order of rules 11.1 to 11.18 and 11.23 to 11.25; those that are a node's fault carry the node. 19 to 22 are given by nothing yet.
-#[derive(Drop)]
+#[derive(Clone, Copy)]
 pub enum Refusal {
     TooShort,
     Edition,

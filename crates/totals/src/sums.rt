@@ -14,7 +14,7 @@ use crate::charging::charged_blocks;
 use chart::Geometry;
 
 // What a hit and what a miss cost.
-#[derive(Drop)]
+#[derive(Clone, Copy)]
 pub struct Tariff {
     pub hit: u16,
     pub miss: u16,

@@ -6,7 +6,7 @@ use chart::HeaderFields;
 
 // The cache's shape, the start code, the number of nodes and the entry. They are as wide as a word, so that values which do not fit are refused and
 // not cut.
-#[derive(Drop)]
+#[derive(Clone, Copy)]
 pub struct Heading {
     pub line: u64,
     pub sets: u64,

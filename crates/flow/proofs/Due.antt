@@ -30,7 +30,7 @@ module _ (F : Flow) (L : Laws F) (same-itself : (a : F.State) → F.same a a ≡
   had-still t (holds b) y o p h = rw (join, same-itself b)
     where
       join : F.meet b y ≡ b
-      join = L.Below-both (F.meet b y) b (L.real_ok t (F.meet b y) (L.real_meet t b y o p)) (L.real_ok t b o) (L.meet_least t b y b o p (L.real_ok t b o) (L.below_refl b) h) (L.meet_left t b y o p)
+      join = L.below_both (F.meet b y) b (L.real_ok t (F.meet b y) (L.real_meet t b y o p)) (L.real_ok t b o) (L.meet_least t b y b o p (L.real_ok t b o) (L.below_refl b) h) (L.meet_left t b y o p)
 
   put-had : (T : Table F) (changed : Bool) (t : ℕ) (y : F.State) → Underway F L T → L.Real t y → CellBelow F (holds y) (cell_at T t)
       → put F y t (record { table = T; changed = changed }) ≡ record { table = T; changed = changed }

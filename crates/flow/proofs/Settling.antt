@@ -220,7 +220,7 @@ module _ (F : Flow) (L : Laws F) where
   cell-both blank blank o p h k = refl
   cell-both blank (holds b) o p h k = absurd k
   cell-both (holds a) blank o p h k = absurd h
-  cell-both (holds a) (holds b) o p h k = ap holds (L.Below-both a b o p h k)
+  cell-both (holds a) (holds b) o p h k = ap holds (L.below_both a b o p h k)
 
   -- There is one tightest table.
   pub tightest-same : (T U : Table F) → Tightest F T → Tightest F U → T ≡ U

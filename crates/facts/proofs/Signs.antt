@@ -1,6 +1,6 @@
 -- A signed number as the machine reads it back from its bits is that number, and a test of it against 0 tells its sign. What it is below 0 goes by
 -- -1 less the number, which has room wherever the number has.
-use Prim.Native.Nat.{ℕ, suc, ◌+◌, ◌-◌}
+use Prim.Native.Nat.{ℕ, suc, ◌+◌}
 use mathlib.Core.Bool.{true, false, true≢false}
 use mathlib.Core.Path.{◌≡◌, refl, sym, ap, ◌∙◌, subst}
 use native.Mathlib.Omega.{arith}

@@ -119,11 +119,11 @@ module _ (fields : RecordFields) (line : ℕ) (write : Bool) (least : 2 ≤ line
   last_byte_bound : Last fields
   last_byte_bound = last_of fields sized
 
-  upper_is : upper ≡ (fields.address + last_byte.byte) / d
-  upper_is = ap (λ (a : ℕ). a / d) last_byte.is
+  upper_is : upper ≡ (fields.address + last_byte_bound.byte) / d
+  upper_is = ap (λ (a : ℕ). a / d) last_byte_bound.is
 
   upper-near : upper ≤ lower + 1
-  upper-near = rw upper_is (block_near d four fields.address last_byte.byte last_byte.few)
+  upper-near = rw upper_is (block_near d four fields.address last_byte_bound.byte last_byte_bound.few)
 
   -- The block of each byte lies between the two.
   from-lower : (k : ℕ) → lower ≤ (fields.address + k) / d
@@ -131,8 +131,8 @@ module _ (fields : RecordFields) (line : ℕ) (write : Bool) (least : 2 ≤ line
 
   to-upper : (k : ℕ) → OneOf fields.size k → (fields.address + k) / d ≤ upper
   to-upper k o =
-      let h = last_byte.most k o in
-      rw upper_is (block-mono d four (fields.address + k) (fields.address + last_byte.byte) (omega arith))
+      let h = last_byte_bound.most k o in
+      rw upper_is (block-mono d four (fields.address + k) (fields.address + last_byte_bound.byte) (omega arith))
 
   alone : upper ≡ lower → both_touched write lower upper ≡ record { block = lower; write = write } ∷ []
   alone e = rw (e, eq-eqb lower lower refl)
@@ -143,7 +143,7 @@ module _ (fields : RecordFields) (line : ℕ) (write : Bool) (least : 2 ≤ line
   pub touches-say : TouchesSay fields line write (both_touched write lower upper)
   touches-say =
       record {
-        one_line = λ same. alone (upper_is ∙ same last_byte.byte last_byte.there);
+        one_line = λ same. alone (upper_is ∙ same last_byte_bound.byte last_byte_bound.there);
         two_lines = λ k o other. both (over k o other);
         every_byte = λ k o. among k o (eqb lower upper) refl;
       }

@@ -6,4 +6,5 @@ pub mod Touching
 pub mod Bounding
 pub mod Meeting
 pub mod Heights
+pub mod Cases
 pub mod Published

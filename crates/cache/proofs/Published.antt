@@ -4,48 +4,12 @@ use mathlib.Core.Path.{◌≡◌, refl, ◌∙◌}
 use mathlib.Core.Bool.{true}
 use Prim.Native.Nat.{ℕ, suc, ◌≤◌, ◌<◌, min, max}
 use native.Mathlib.Omega.{arith}
-use borrow.Author.Tests.{eq-eqb, ne_eqb, lt-ltb, le-ltb, le-leb, lt-leb}
 use Rattle.lists.proofs.Orders.{below_or, at_most, same_or}
-use Rattle.cache.specs.Ages.{age_of, must_grown, may_grown, must_after, may_after}
+use Rattle.cache.specs.Ages.{age_of, must_after, may_after}
+use Rattle.cache.proofs.Cases.{must-own, must-apart, must-younger, must-older, may-own, may-apart, may-younger, may-older}
 use Rattle.cache.proofs.Touching.{touch-must, touch-may}
 use Rattle.cache.proofs.Meeting.{meet-must, meet-may, start-must, start-may}
 use Rattle.cache.specs.Published.{InLine, InSome, MustLines, MayLines, AllShift, MustJoin, MayJoin, Same, AsPublished}
-
--- ---- a touch, by cases
-
-module _ (key age : ℕ → ℕ) (m block : ℕ) where
-  must-own : block ≡ m → must_after key m age block ≡ 0
-  unfolding must_after
-  must-own e = rw (eq-eqb block m e) refl
-
-  must-apart : (key block ≡ key m → ⊥) → must_after key m age block ≡ age block
-  unfolding must_after
-  must-apart apart = rw (ne_eqb block m (λ e. apart (rw e refl)), ne_eqb (key block) (key m) apart) refl
-
-  must-younger : key block ≡ key m → (block ≡ m → ⊥) → age block < age m → must_after key m age block ≡ suc (age block)
-  unfolding must_after must_grown
-  must-younger k n l = rw (ne_eqb block m n, eq-eqb (key block) (key m) k, lt-ltb (age block) (age m) l) refl
-
-  must-older : key block ≡ key m → (block ≡ m → ⊥) → age m ≤ age block → must_after key m age block ≡ age block
-  unfolding must_after must_grown
-  must-older k n l = rw (ne_eqb block m n, eq-eqb (key block) (key m) k, le-ltb (age block) (age m) l) refl
-
-  module _ (limit : ℕ → ℕ) where
-    may-own : block ≡ m → may_after key limit m age block ≡ 0
-    unfolding may_after
-    may-own e = rw (eq-eqb block m e) refl
-
-    may-apart : (key block ≡ key m → ⊥) → may_after key limit m age block ≡ age block
-    unfolding may_after
-    may-apart apart = rw (ne_eqb block m (λ e. apart (rw e refl)), ne_eqb (key block) (key m) apart) refl
-
-    may-younger : key block ≡ key m → (block ≡ m → ⊥) → age block ≤ age m → may_after key limit m age block ≡ min (limit block) (suc (age block))
-    unfolding may_after may_grown
-    may-younger k n l = rw (ne_eqb block m n, eq-eqb (key block) (key m) k, le-leb (age block) (age m) l) refl
-
-    may-older : key block ≡ key m → (block ≡ m → ⊥) → age m < age block → may_after key limit m age block ≡ age block
-    unfolding may_after may_grown
-    may-older k n l = rw (ne_eqb block m n, eq-eqb (key block) (key m) k, lt-leb (age block) (age m) l) refl
 
 -- A block of age A stands in no line.
 none_above : (ways : ℕ) (age : ℕ → ℕ) (block : ℕ) → ways ≤ age block → InSome ways (InLine age) block → ⊥

@@ -1,11 +1,11 @@
 -- What a plan in two flat lists says of each node and column: it is what stands in the lists, and within them.
 use Prim.Native.Nat.{ℕ, ◌+◌, ◌*◌, ◌≤◌, ◌<◌}
-use mathlib.Core.Bool.{Bool, true, false, cond}
-use mathlib.Core.List.{List, [], ◌∷◌}
+use mathlib.Core.Bool.{Bool, true, false}
+use mathlib.Core.List.{List}
 use mathlib.Core.Logic.{inl, inr}
-use mathlib.Core.Path.{◌≡◌, refl, sym, ap, subst, ◌∙◌}
+use mathlib.Core.Path.{◌≡◌, refl, sym, ap, subst}
 use native.Mathlib.Omega.{arith}
-use borrow.Author.Tests.{ne_eqb, eq-eqb, eqb-true, eqb-false}
+use borrow.Author.Tests.{ne_eqb, eqb-true}
 use lib.Dec.{eqb}
 use lib.ListN.{get_or, length}
 use Rattle.lists.specs.Lists.{Among}
@@ -13,7 +13,7 @@ use Rattle.lists.proofs.Listed.{get_or-list_of}
 use Rattle.chart.specs.Geometry.{most_blocks}
 use Rattle.chart.specs.Record.{arrows_of, Leads}
 use Rattle.chart.specs.declared.records.Targets.{Targets}
-use Rattle.ages.specs.Plan.{ColumnTouch, PlanNode, Plan, nothing, columns_of, touches_in, arrows_in}
+use Rattle.ages.specs.Plan.{ColumnTouch, PlanNode, nothing, columns_of, touches_in, arrows_in}
 use Rattle.plan.specs.declared.PlannedRecord.{PlannedRecord}
 use Rattle.plan.specs.declared.PlannedRecord.TheVariants.{Step, Reference}
 use Rattle.plan.specs.Listed.{nodes_in, blocks_in, node_place, node_in, touches_by, plan_node, plan_in, Drawn, RecordIn}

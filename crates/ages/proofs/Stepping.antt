@@ -1,10 +1,8 @@
 -- One node of a sound plan: its step keeps ages within their limits and the order of states.
-use mathlib.Core.List.{List}
 use Prim.Native.Nat.{ℕ, ◌<◌}
 use Rattle.lists.specs.Lists.{Among}
 use Rattle.cache.specs.Ages.{Ages, Within, Tighter}
 use Rattle.cache.proofs.Touching.{touch-within, touch-monotone}
-use Rattle.flow.specs.Walk.{in_turn}
 use Rattle.flow.proofs.Turns.{in_turn-keeps}
 use Rattle.ages.specs.Plan.{ColumnTouch, Plan, columns_of, touches_in, after_touch, plan_flow, Sound}
 

@@ -9,7 +9,7 @@ use refusals::Refusal;
 pub use settled::analyse;
 
 // Settled after so many passes over a chart of so many blocks, not settled within the allowance (refusal 12), or one of refusals 1 to 11.
-#[derive(Drop)]
+#[derive(Clone, Copy)]
 pub enum Analysed {
     Settled { passes: usize, blocks: usize },
     Unsettled { allowance: usize, blocks: usize },

@@ -27,7 +27,7 @@ use refusals::Refusal;
 use totals::Tariff;
 
 // The bound, or a refusal.
-#[derive(Drop)]
+#[derive(Clone, Copy)]
 pub enum Bounded {
     At(u64),
     Refused(Refusal),

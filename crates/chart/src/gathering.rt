@@ -15,7 +15,7 @@ use crate::shape::Geometry;
 use blocks::put_block;
 
 // How many blocks there are, or the first node that brings one too many (rule 11.10).
-#[derive(Drop)]
+#[derive(Clone, Copy)]
 pub enum Gathered {
     Blocks(usize),
     TooMany(usize),

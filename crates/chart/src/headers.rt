@@ -51,7 +51,7 @@ pub struct Header {
     pub entry: usize,
 }
 
-#[derive(Drop)]
+#[derive(Clone, Copy)]
 pub enum HeaderRead {
     Accepted(Header),
     Refused(Refusal),

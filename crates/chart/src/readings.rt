@@ -11,7 +11,7 @@ use crate::shape::Geometry;
 use refusals::Refusal;
 
 // A chart with that many blocks, or why it is none.
-#[derive(Drop)]
+#[derive(Clone, Copy)]
 pub enum Verdict {
     Accepted(Header, usize),
     Refused(Refusal),

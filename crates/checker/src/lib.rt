@@ -18,7 +18,7 @@ use refusals::Refusal;
 use rows::Row;
 
 // Whether a table passes, or a refusal.
-#[derive(Drop)]
+#[derive(Clone, Copy)]
 pub enum Checked {
     Yes,
     No,

@@ -84,7 +84,7 @@ fn class_after(columns: &[u8], lower: usize, upper: usize, first: Pair, second: 
 }
 
 // The two classes of a node, that of its first touch first.
-#[derive(Drop)]
+#[derive(Clone, Copy)]
 pub(crate) struct Classes {
     pub first: u8,
     pub second: u8,

@@ -13,7 +13,7 @@ use refusals::Refusal;
 use totals::Totals;
 
 // Whether the deadline is met, with the low and the high figure; or a refusal.
-#[derive(Drop)]
+#[derive(Clone, Copy)]
 pub enum Judged {
     Met { low: f64, high: f64 },
     NotMet { low: f64, high: f64 },

@@ -10,7 +10,7 @@ use chart::{RecordFields, Verdict};
 use refusals::Refusal;
 
 // The fields of a node's record; or that there is no such node; or why there is no chart.
-#[derive(Drop)]
+#[derive(Clone, Copy)]
 pub enum NodeRead {
     Node(RecordFields),
     NoNode,
@@ -18,7 +18,7 @@ pub enum NodeRead {
 }
 
 // How many blocks there are, or why they are not listed.
-#[derive(Drop)]
+#[derive(Clone, Copy)]
 pub enum BlocksRead {
     Blocks(usize),
     Refused(Refusal),

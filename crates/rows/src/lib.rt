@@ -11,7 +11,7 @@ ghost use Rattle.rows.specs.Rows.{columns_by, as_row, entry_ages, exit_ages, Tou
 use chart::Geometry;
 
 // The must and may ages of a chart's blocks, in the list's order; no answer depends on the places past them.
-#[derive(Drop)]
+#[derive(Clone, Copy)]
 pub struct Row {
     pub must: [u8; Geometry::BLOCKS],
     pub may: [u8; Geometry::BLOCKS],

@@ -8,7 +8,7 @@ use crate::taking::take_node;
 use chart::Geometry;
 
 // Settled after so many passes, or not within the allowance.
-#[derive(Drop)]
+#[derive(Clone, Copy)]
 pub enum Settling {
     Settled(usize),
     Spent,

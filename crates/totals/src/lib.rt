@@ -20,7 +20,7 @@ use refusals::Refusal;
 pub use sums::{Tariff, charge, high_rate, low_rate};
 
 // The low and the high total, or a refusal.
-#[derive(Drop)]
+#[derive(Clone, Copy)]
 pub enum Totals {
     Between { low: u64, high: u64 },
     Refused(Refusal),

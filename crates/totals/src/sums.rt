@@ -21,7 +21,7 @@ pub struct Tariff {
 }
 
 // The two sums so far, in u64. Neither overflows: Geometry::CLASSES products of two numbers of 16 bits are far below 2^64 (`Small`).
-#[derive(Drop)]
+#[derive(Clone, Copy)]
 pub(crate) struct Sums {
     pub low: u64,
     pub high: u64,

@@ -17,7 +17,7 @@ use chart::{Gathered, Geometry, Header, HeaderRead, gather, header_of};
 use refusals::Refusal;
 
 // So many bytes were written, or none for this reason.
-#[derive(Drop)]
+#[derive(Clone, Copy)]
 pub enum Wrote {
     Bytes(usize),
     Refused(Refusal),

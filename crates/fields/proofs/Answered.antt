@@ -1,11 +1,11 @@
 -- What a reader that accepts, or refuses, leaves to say of a node and of the blocks.
 use Prim.Native.Nat.{ℕ, ◌≤◌, ◌<◌}
 use mathlib.Core.List.{List}
-use mathlib.Core.Path.{◌≡◌, sym, ap, subst, ◌∙◌}
+use mathlib.Core.Path.{◌≡◌, ap, ◌∙◌}
 use native.Mathlib.Omega.{arith}
 use borrow.Author.Tests.{lt-ltb, le-ltb}
 use lib.ListN.{length, get_or}
-use Rattle.lists.specs.Lists.{written, padded}
+use Rattle.lists.specs.Lists.{written}
 use Rattle.lists.specs.Loops.{patch}
 use Rattle.lists.proofs.Lists.{get_or-padded}
 use Rattle.lists.proofs.Listed.{list_of-all}

@@ -2,7 +2,7 @@
 -- Choices: number and place are 0 where nothing is refused; a node that there is not is no refusal, and has an answer of its own; in numbers a node
 -- that is there is 1 and one that is not is 0.
 use Rattle.std.specs.Prelude.{ℕ, cond, List, [], ◌∷◌, length, ltb}
-use Rattle.lists.specs.Slices.{Slice}
+use Rattle.lists.specs.Slices.{MutSlice}
 use Rattle.lists.specs.Choice.{◌⇒◌, first_case}
 use Rattle.lists.specs.Lists.{written}
 use Rattle.refusals.specs.declared.Refusal.{Refusal}
@@ -83,5 +83,5 @@ abbrev pub read_blocks_say : List ℕ → List ℕ → BlocksSaid
 read_blocks_say bytes lent = blocks_say (blocks_read bytes lent).answer
 
 -- The answer with the list at exit, as a contract names them.
-abbrev pub exit_blocks : Slice → BlocksRead → BlocksLeft
+abbrev pub exit_blocks : MutSlice → BlocksRead → BlocksLeft
 exit_blocks blocks answer = record { answer = answer; blocks = blocks.exit.now }

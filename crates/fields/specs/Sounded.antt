@@ -2,7 +2,7 @@
 -- from N on, a chart that is refused, and buffers with too little room, just enough and more. Nothing here is a rule of the tool: these are
 -- examples of rules 15.1 and 15.2, and `FieldsSounded` holds the definitions to them.
 use Rattle.std.specs.Prelude.{ℕ, List, [], ◌∷◌, ◌++◌, ◌≡◌, replicate, set}
-use Rattle.lists.specs.Slices.{Slice}
+use Rattle.lists.specs.Slices.{MutSlice}
 use Rattle.lists.specs.Soundings.{Sounding, ◌reads◌, Hold}
 use Rattle.fields.specs.declared.BlocksRead.{BlocksRead}
 use Rattle.fields.specs.Fields.{read_node_says, blocks_read, read_blocks_say, exit_blocks}
@@ -60,6 +60,6 @@ blocks_listed =
 
 pub record FieldsSounded : Type 0 where
   -- what is left is the list at exit, whatever is answered
-  pub blocks_left : (blocks : Slice) (answer : BlocksRead) → exit_blocks blocks answer ≡ record { answer = answer; blocks = blocks.exit.now }
+  pub blocks_left : (blocks : MutSlice) (answer : BlocksRead) → exit_blocks blocks answer ≡ record { answer = answer; blocks = blocks.exit.now }
   pub nodes-read : Hold nodes_read
   pub blocks-listed : Hold blocks_listed

@@ -2,7 +2,6 @@
 -- and 12.8. Refusal 12 is an answer of its own, `Unsettled`, that carries the allowance and B: so what an answer says in numbers follows from the
 -- answer alone. `Refused` never carries it.
 use Rattle.std.specs.Prelude.{ℕ, ◌*◌, Bool, ◌||◌, List, [], ◌∷◌, length, replicate, ltb}
-use Rattle.lists.specs.Slices.{Slice}
 use Rattle.lists.specs.Choice.{◌⇒◌, first_case}
 use Rattle.lists.specs.Lists.{written}
 use Rattle.refusals.specs.declared.Refusal.{Refusal}
@@ -53,28 +52,28 @@ abbrev pub table_in : Buffers → Lent
 table_in buffers = record { must = buffers.must; may = buffers.may; marks = buffers.marks }
 
 -- The buffers as the clauses of a contract name them: at entry and at exit.
-abbrev pub entry_buffers : Slice → Slice → Slice → Slice → Slice → Buffers
+abbrev pub entry_buffers : List ℕ → List ℕ → List ℕ → List ℕ → List ℕ → Buffers
 entry_buffers blocks must may marks classes =
     record {
-      blocks = blocks.entry.now;
-      must = must.entry.now;
-      may = may.entry.now;
-      marks = marks.entry.now;
-      classes = classes.entry.now;
+      blocks = blocks;
+      must = must;
+      may = may;
+      marks = marks;
+      classes = classes;
     }
 
-abbrev pub exit_buffers : Slice → Slice → Slice → Slice → Slice → Buffers
+abbrev pub exit_buffers : List ℕ → List ℕ → List ℕ → List ℕ → List ℕ → Buffers
 exit_buffers blocks must may marks classes =
     record {
-      blocks = blocks.exit.now;
-      must = must.exit.now;
-      may = may.exit.now;
-      marks = marks.exit.now;
-      classes = classes.exit.now;
+      blocks = blocks;
+      must = must;
+      may = may;
+      marks = marks;
+      classes = classes;
     }
 
 -- The answer with the buffers at exit.
-abbrev pub exit_left : Slice → Slice → Slice → Slice → Slice → Analysed → Left
+abbrev pub exit_left : List ℕ → List ℕ → List ℕ → List ℕ → List ℕ → Analysed → Left
 exit_left blocks must may marks classes answer =
     record { answer = answer; buffers = exit_buffers blocks must may marks classes }
 

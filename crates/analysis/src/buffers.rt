@@ -24,7 +24,7 @@ pub(crate) fn short_for(
 ) -> bool
     requires in_bounds { 1 < length plan.now }
     requires plan_bound { (nodes_in plan.now ≤ most_nodes) × (blocks_in plan.now ≤ most_blocks) }
-    ensures { result ≡ buffers_short (sized plan.now) (entry_buffers blocks must may marks classes) }
+    ensures { result ≡ buffers_short (sized plan.now) (entry_buffers blocks.now must.now may.now marks.now classes.now) }
 {
     let nodes = plan::nodes_in(plan);
     let count = plan::blocks_in(plan);
@@ -36,8 +36,8 @@ pub(crate) fn short_for(
 // Writes zeros in every used place of a table.
 pub(crate) fn clear(plan: &[u16], must: &mut [u8], may: &mut [u8], marks: &mut [u8])
     requires in_bounds { 1 < length plan.now }
-    requires room_for { RoomFor plan must may marks }
-    ensures { exit_table must may marks ≡ blank_over (sized plan.now) (entry_table must may marks) }
+    requires room_for { RoomFor plan.now must.old may.old marks.old }
+    ensures { exit_table must.new may.new marks.new ≡ blank_over (sized plan.now) (entry_table must.old may.old marks.old) }
 {
     let nodes = plan::nodes_in(plan);
     let used = nodes * plan::blocks_in(plan);
@@ -55,8 +55,8 @@ pub(crate) fn start_table(
     marks: &mut [u8],
 )
     requires drawn_in { DrawnIn columns plan }
-    requires room_for { RoomFor plan must may marks }
-    ensures { exit_table must may marks ≡ over (plan_at columns plan) (before (plan_flow (plan_at columns plan))) (entry_table must may marks) }
+    requires room_for { RoomFor plan.now must.old may.old marks.old }
+    ensures { exit_table must.new may.new marks.new ≡ over (plan_at columns plan) (before (plan_flow (plan_at columns plan))) (entry_table must.old may.old marks.old) }
 {
     let blocks = plan::blocks_in(plan);
     let entry = plan::entry_in(plan);

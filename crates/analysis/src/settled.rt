@@ -25,9 +25,9 @@ fn settle_table(
     classes: &mut [u8],
 ) -> Analysed
     requires drawn_in { DrawnIn columns plan }
-    requires room_for { RoomFor plan must may marks }
+    requires room_for { RoomFor plan.now must.old may.old marks.old }
     requires plan_in_bounds { most_touches * nodes_in plan.now ≤ length classes.old }
-    ensures { Finishes (plan_at columns plan) allowance (entry_table must may marks) classes.old result (exit_table must may marks) classes.new }
+    ensures { Finishes (plan_at columns plan) allowance (entry_table must.old may.old marks.old) classes.old result (exit_table must.new may.new marks.new) classes.new }
 {
     let nodes = plan::nodes_in(plan);
     let blocks = plan::blocks_in(plan);
@@ -63,8 +63,8 @@ pub fn analyse(
     marks: &mut [u8],
     classes: &mut [u8],
 ) -> Analysed
-    ensures result_value { exit_left blocks must may marks classes result ≡ analysed chart.now allowance (entry_buffers blocks must may marks classes) }
-    ensures result_value_2 { analysed_says result ≡ analyse_says chart.now allowance (entry_buffers blocks must may marks classes) }
+    ensures result_value { exit_left blocks.new must.new may.new marks.new classes.new result ≡ analysed chart.now allowance (entry_buffers blocks.old must.old may.old marks.old classes.old) }
+    ensures result_value_2 { analysed_says result ≡ analyse_says chart.now allowance (entry_buffers blocks.old must.old may.old marks.old classes.old) }
 {
     let mut columns = [0u8; plan::COLUMNS];
     let mut plan = [0u16; plan::LENGTH];

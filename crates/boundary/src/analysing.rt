@@ -41,9 +41,9 @@ pub extern "C" fn veilbuzz_analyse(
     classes: &mut [u8],
     answer: &mut [u64],
 ) -> u64
-    ensures value { result ≡ returned (analysed_short answer.old) (analyse_says chart.now allowance (entry_buffers blocks must may marks classes)).number }
-    ensures classes_value { exit_buffers blocks must may marks classes ≡ left (analysed_short answer.old) (entry_buffers blocks must may marks classes) (analysed chart.now allowance (entry_buffers blocks must may marks classes)).buffers }
-    ensures answer_after { answer.new ≡ told (analysed_short answer.old) (analysed_numbers (analyse_says chart.now allowance (entry_buffers blocks must may marks classes))) answer.old }
+    ensures value { result ≡ returned (analysed_short answer.old) (analyse_says chart.now allowance (entry_buffers blocks.old must.old may.old marks.old classes.old)).number }
+    ensures classes_value { exit_buffers blocks.new must.new may.new marks.new classes.new ≡ left (analysed_short answer.old) (entry_buffers blocks.old must.old may.old marks.old classes.old) (analysed chart.now allowance (entry_buffers blocks.old must.old may.old marks.old classes.old)).buffers }
+    ensures answer_after { answer.new ≡ told (analysed_short answer.old) (analysed_numbers (analyse_says chart.now allowance (entry_buffers blocks.old must.old may.old marks.old classes.old))) answer.old }
 {
     if answer.len() < 4 {
         return no_room();

@@ -59,8 +59,8 @@ pub extern "C" fn veilbuzz_bound(
     denominator: u64,
     answer: &mut [u64],
 ) -> u64
-    ensures value { result ≡ returned (bound_short answer.old) (bound_says chart.now (entry_table must may marks) (asked (side_given side) hit miss (entry_facts coefficients limits) (entry_certificate multipliers potentials (denominator_given side denominator)))).number }
-    ensures answer_after { answer.new ≡ told (bound_short answer.old) (bound_numbers (bound_says chart.now (entry_table must may marks) (asked (side_given side) hit miss (entry_facts coefficients limits) (entry_certificate multipliers potentials (denominator_given side denominator))))) answer.old }
+    ensures value { result ≡ returned (bound_short answer.old) (bound_says chart.now (entry_table must.now may.now marks.now) (asked (side_given side) hit miss (entry_facts coefficients limits) (entry_certificate multipliers potentials (denominator_given side denominator)))).number }
+    ensures answer_after { answer.new ≡ told (bound_short answer.old) (bound_numbers (bound_says chart.now (entry_table must.now may.now marks.now) (asked (side_given side) hit miss (entry_facts coefficients limits) (entry_certificate multipliers potentials (denominator_given side denominator))))) answer.old }
 {
     if answer.len() < 3 {
         return no_room();

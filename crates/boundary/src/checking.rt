@@ -29,8 +29,8 @@ pub extern "C" fn veilbuzz_check(
     marks: &[u8],
     answer: &mut [u64],
 ) -> u64
-    ensures value { result ≡ returned (checked_short answer.old) (check_says chart.now (entry_table must may marks)).number }
-    ensures answer_after { answer.new ≡ told (checked_short answer.old) (checked_numbers (check_says chart.now (entry_table must may marks))) answer.old }
+    ensures value { result ≡ returned (checked_short answer.old) (check_says chart.now (entry_table must.now may.now marks.now)).number }
+    ensures answer_after { answer.new ≡ told (checked_short answer.old) (checked_numbers (check_says chart.now (entry_table must.now may.now marks.now))) answer.old }
 {
     if answer.len() < 3 {
         return no_room();

@@ -83,9 +83,9 @@ pub extern "C" fn veilbuzz_deadline(
     figures: &mut [f64],
     answer: &mut [u64],
 ) -> u64
-    ensures value { result ≡ returned (judged_short figures.old answer.old) (judge_says chart.now (entry_table must may marks) (entry_figures hit miss floors ceilings) (sheet_given period overhead) (deadline_given kind earliest latest)).number }
-    ensures figures_after { figures.new ≡ left (judged_short figures.old answer.old) figures.old (figures_told (judged chart.now (entry_table must may marks) (entry_figures hit miss floors ceilings) (sheet_given period overhead) (deadline_given kind earliest latest)) figures.old) }
-    ensures answer_after { answer.new ≡ told (judged_short figures.old answer.old) (judged_numbers (judge_says chart.now (entry_table must may marks) (entry_figures hit miss floors ceilings) (sheet_given period overhead) (deadline_given kind earliest latest))) answer.old }
+    ensures value { result ≡ returned (judged_short figures.old answer.old) (judge_says chart.now (entry_table must.now may.now marks.now) (entry_figures hit miss floors ceilings) (sheet_given period overhead) (deadline_given kind earliest latest)).number }
+    ensures figures_after { figures.new ≡ left (judged_short figures.old answer.old) figures.old (figures_told (judged chart.now (entry_table must.now may.now marks.now) (entry_figures hit miss floors ceilings) (sheet_given period overhead) (deadline_given kind earliest latest)) figures.old) }
+    ensures answer_after { answer.new ≡ told (judged_short figures.old answer.old) (judged_numbers (judge_says chart.now (entry_table must.now may.now marks.now) (entry_figures hit miss floors ceilings) (sheet_given period overhead) (deadline_given kind earliest latest))) answer.old }
 {
     let short = (figures.len() < 2) | (answer.len() < 3);
     if short {

@@ -35,8 +35,8 @@ pub extern "C" fn veilbuzz_total(
     ceilings: &[u16],
     answer: &mut [u64],
 ) -> u64
-    ensures value { result ≡ returned (totals_short answer.old) (total_says chart.now (entry_table must may marks) (entry_figures hit miss floors ceilings)).number }
-    ensures answer_after { answer.new ≡ told (totals_short answer.old) (totals_numbers (total_says chart.now (entry_table must may marks) (entry_figures hit miss floors ceilings))) answer.old }
+    ensures value { result ≡ returned (totals_short answer.old) (total_says chart.now (entry_table must.now may.now marks.now) (entry_figures hit miss floors ceilings)).number }
+    ensures answer_after { answer.new ≡ told (totals_short answer.old) (totals_numbers (total_says chart.now (entry_table must.now may.now marks.now) (entry_figures hit miss floors ceilings))) answer.old }
 {
     if answer.len() < 4 {
         return no_room();

@@ -65,12 +65,12 @@ fn certified(
     nodes: usize,
 ) -> Bounded
     requires drawn_in { DrawnIn columns plan }
-    requires room_for { RoomFor plan must may marks }
+    requires room_for { RoomFor plan.now must.now may.now marks.now }
     requires hit_le_miss { price.tariff.hit ≤ price.tariff.miss }
     requires nodes_value { nodes ≡ nodes_in plan.now }
     requires denominator_value { lengths_fit nodes (passed_facts coefficients limits) (passed_certificate multipliers potentials price.denominator) ≡ true }
     requires denominator_value_2 { in_range (passed_facts coefficients limits) (passed_certificate multipliers potentials price.denominator) ≡ true }
-    ensures { result ≡ certified_by (plan_at columns plan) (entry_table must may marks) (price_asks price (entry_facts coefficients limits) multipliers.now potentials.now) }
+    ensures { result ≡ certified_by (plan_at columns plan) (entry_table must.now may.now marks.now) (price_asks price (entry_facts coefficients limits) multipliers.now potentials.now) }
 {
     let mut classes = [0u8; Geometry::CLASSES];
     classing::write_classes(columns, plan, must, may, marks, &mut classes);
@@ -109,8 +109,8 @@ fn bound_drawn(
     price: Price,
 ) -> Bounded
     requires drawn_in { DrawnIn columns plan }
-    requires room_for { RoomFor plan must may marks }
-    ensures { result ≡ bounded_by (plan_at columns plan) (entry_table must may marks) (price_asks price (entry_facts coefficients limits) multipliers.now potentials.now) }
+    requires room_for { RoomFor plan.now must.now may.now marks.now }
+    ensures { result ≡ bounded_by (plan_at columns plan) (entry_table must.now may.now marks.now) (price_asks price (entry_facts coefficients limits) multipliers.now potentials.now) }
 {
     let tariff = price.tariff;
     let denominator = price.denominator;
@@ -157,8 +157,8 @@ pub fn bound(
     potentials: &[i64],
     denominator: u64,
 ) -> Bounded
-    ensures value { result ≡ bounded chart.now (entry_table must may marks) (asked side hit miss (entry_facts coefficients limits) (entry_certificate multipliers potentials denominator)) }
-    ensures result_value { bounded_say result ≡ bound_says chart.now (entry_table must may marks) (asked side hit miss (entry_facts coefficients limits) (entry_certificate multipliers potentials denominator)) }
+    ensures value { result ≡ bounded chart.now (entry_table must.now may.now marks.now) (asked side hit miss (entry_facts coefficients limits) (entry_certificate multipliers potentials denominator)) }
+    ensures result_value { bounded_say result ≡ bound_says chart.now (entry_table must.now may.now marks.now) (asked side hit miss (entry_facts coefficients limits) (entry_certificate multipliers potentials denominator)) }
 {
     let mut columns = [0u8; plan::COLUMNS];
     let mut plan = [0u16; plan::LENGTH];

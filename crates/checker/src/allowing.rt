@@ -20,8 +20,8 @@ pub(crate) fn row_allows(
     row: Row,
     t: usize,
 ) -> bool
-    requires { RowIn blocks (lent_table must may marks) t }
-    ensures { result ≡ allows blocks (entry_table must may marks) (ages_in row) t }
+    requires { RowIn blocks (lent_table must.now may.now marks.now) t }
+    ensures { result ≡ allows blocks (entry_table must.now may.now marks.now) (ages_in row) t }
 {
     let base = t * blocks;
     let row_must = row.must;
@@ -42,8 +42,8 @@ pub(crate) fn targets_allow(
     row: Row,
     targets: Targets,
 ) -> bool
-    requires { TargetsIn blocks (lent_table must may marks) targets }
-    ensures { result ≡ every_of (allows blocks (entry_table must may marks) (ages_in row)) (arrows_of targets) }
+    requires { TargetsIn blocks (lent_table must.now may.now marks.now) targets }
+    ensures { result ≡ every_of (allows blocks (entry_table must.now may.now marks.now) (ages_in row)) (arrows_of targets) }
 {
     let outs = targets.outs;
     let first = targets.first;

@@ -28,8 +28,8 @@ pub enum Checked {
 // Whether a table that is long enough passes.
 fn table_passing(columns: &[u8], plan: &[u16], must: &[u8], may: &[u8], marks: &[u8]) -> bool
     requires drawn_in { DrawnIn columns plan }
-    requires room_for { RoomFor plan must may marks }
-    ensures { result ≡ passing (plan_at columns plan) (entry_table must may marks) }
+    requires room_for { RoomFor plan.now must.now may.now marks.now }
+    ensures { result ≡ passing (plan_at columns plan) (entry_table must.now may.now marks.now) }
 {
     let blocks = plan::blocks_in(plan);
     let entry = plan::entry_in(plan);
@@ -42,7 +42,7 @@ fn table_passing(columns: &[u8], plan: &[u16], must: &[u8], may: &[u8], marks: &
 // keep that the two lists hold a plan.
 pub fn check_drawn(columns: &[u8], plan: &[u16], must: &[u8], may: &[u8], marks: &[u8]) -> Checked
     requires { DrawnIn columns plan }
-    ensures { result ≡ checked_by (plan_at columns plan) (entry_table must may marks) }
+    ensures { result ≡ checked_by (plan_at columns plan) (entry_table must.now may.now marks.now) }
 {
     let nodes = plan::nodes_in(plan);
     let used = nodes * plan::blocks_in(plan);
@@ -58,8 +58,8 @@ pub fn check_drawn(columns: &[u8], plan: &[u16], must: &[u8], may: &[u8], marks:
 
 // Answers for any bytes and any lent table: yes or no, or the first of refusals 1 to 11 that applies (rules 12.5 and 12.7).
 pub fn check(chart: &[u8], must: &[u8], may: &[u8], marks: &[u8]) -> Checked
-    ensures value { result ≡ checked chart.now (entry_table must may marks) }
-    ensures result_value { checked_says result ≡ check_says chart.now (entry_table must may marks) }
+    ensures value { result ≡ checked chart.now (entry_table must.now may.now marks.now) }
+    ensures result_value { checked_says result ≡ check_says chart.now (entry_table must.now may.now marks.now) }
 {
     let mut columns = [0u8; plan::COLUMNS];
     let mut drawn = [0u16; plan::LENGTH];

@@ -21,9 +21,9 @@ fn node_passing(
     n: usize,
 ) -> bool
     requires drawn_in { DrawnIn columns plan }
-    requires room_for { RoomFor plan must may marks }
+    requires room_for { RoomFor plan.now must.now may.now marks.now }
     requires n_bound { n < nodes_in plan.now }
-    ensures { result ≡ node_passing (plan_at columns plan) (entry_table must may marks) n }
+    ensures { result ≡ node_passing (plan_at columns plan) (entry_table must.now may.now marks.now) n }
 {
     let blocks = plan::blocks_in(plan);
     let fits = row_fits(columns, must, may, blocks, n);
@@ -61,8 +61,8 @@ pub(crate) fn nodes_passing(
     marks: &[u8],
 ) -> bool
     requires drawn_in { DrawnIn columns plan }
-    requires room_for { RoomFor plan must may marks }
-    ensures { result ≡ every (nodes_in plan.now) (node_passing (plan_at columns plan) (entry_table must may marks)) }
+    requires room_for { RoomFor plan.now must.now may.now marks.now }
+    ensures { result ≡ every (nodes_in plan.now) (node_passing (plan_at columns plan) (entry_table must.now may.now marks.now)) }
 {
     let nodes = plan::nodes_in(plan);
     let mut pass = true;

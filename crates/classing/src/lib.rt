@@ -101,9 +101,9 @@ fn classes_at(
     n: usize,
 ) -> Classes
     requires drawn_in { DrawnIn columns plan }
-    requires room_for { RoomFor plan must may marks }
+    requires room_for { RoomFor plan.now must.now may.now marks.now }
     requires n_bound { n < nodes_in plan.now }
-    ensures { result ≡ both_by_ages (plan_at columns plan) n (cell_at (table_of (plan_at columns plan) (entry_table must may marks)) n) }
+    ensures { result ≡ both_by_ages (plan_at columns plan) n (cell_at (table_of (plan_at columns plan) (entry_table must.now may.now marks.now)) n) }
 {
     if marks[n] == 0 {
         return Classes {
@@ -148,9 +148,9 @@ fn put_classes(
     classes: &mut [u8],
 )
     requires drawn_in { DrawnIn columns plan }
-    requires room_for { RoomFor plan must may marks }
+    requires room_for { RoomFor plan.now must.now may.now marks.now }
     requires plan_in_bounds { most_touches * nodes_in plan.now ≤ length classes.old }
-    ensures { classes.new ≡ written (age_table (plan_at columns plan) (table_of (plan_at columns plan) (entry_table must may marks))) classes.old }
+    ensures { classes.new ≡ written (age_table (plan_at columns plan) (table_of (plan_at columns plan) (entry_table must.now may.now marks.now))) classes.old }
 {
     let nodes = plan::nodes_in(plan);
     for n in 0..nodes {
@@ -172,9 +172,9 @@ pub fn write_classes(
     classes: &mut [u8],
 )
     requires drawn_in { DrawnIn columns plan }
-    requires room_for { RoomFor plan must may marks }
+    requires room_for { RoomFor plan.now must.now may.now marks.now }
     requires plan_in_bounds { most_touches * nodes_in plan.now ≤ length classes.old }
-    ensures { classes.new ≡ written (table_classes (plan_at columns plan) (table_of (plan_at columns plan) (entry_table must may marks))) classes.old }
+    ensures { classes.new ≡ written (table_classes (plan_at columns plan) (table_of (plan_at columns plan) (entry_table must.now may.now marks.now))) classes.old }
 {
     put_classes(columns, plan, must, may, marks, classes);
     let wanted = wanted_columns(plan, classes);

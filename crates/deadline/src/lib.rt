@@ -58,8 +58,8 @@ pub fn judge(
     sheet: ClockSheet,
     deadline: Deadline,
 ) -> Judged
-    ensures value { result ≡ judged chart.now (entry_table must may marks) (entry_figures hit miss floors ceilings) sheet deadline }
-    ensures result_value { judged_say result ≡ judge_says chart.now (entry_table must may marks) (entry_figures hit miss floors ceilings) sheet deadline }
+    ensures value { result ≡ judged chart.now (entry_table must.now may.now marks.now) (entry_figures hit miss floors ceilings) sheet deadline }
+    ensures result_value { judged_say result ≡ judge_says chart.now (entry_table must.now may.now marks.now) (entry_figures hit miss floors ceilings) sheet deadline }
     ensures sixteen_bits { SixteenBits (entry_figures hit miss floors ceilings) }
 {
     let answer = totals::total(chart, must, may, marks, hit, miss, floors, ceilings);

@@ -112,29 +112,29 @@ pub record Anywhere : Type 0 where
   -- rule 3.4: B
   pub block-count : (chart : Chart) → block_count chart ≡ length chart.blocks
   -- what is lent, as contracts name it, is each slice by its name
-  pub buffers_lent : (blocks must may marks classes : Slice)
+  pub buffers_lent : (blocks must may marks classes : List ℕ)
       → entry_buffers blocks must may marks classes
       ≡ record {
-        blocks = blocks.entry.now;
-        must = must.entry.now;
-        may = may.entry.now;
-        marks = marks.entry.now;
-        classes = classes.entry.now;
+        blocks = blocks;
+        must = must;
+        may = may;
+        marks = marks;
+        classes = classes;
       }
-  pub buffers_left : (blocks must may marks classes : Slice) (answer : Analysed)
+  pub buffers_left : (blocks must may marks classes : List ℕ) (answer : Analysed)
       → exit_left blocks must may marks classes answer
       ≡ record {
         answer = answer;
         buffers = record {
-          blocks = blocks.exit.now;
-          must = must.exit.now;
-          may = may.exit.now;
-          marks = marks.exit.now;
-          classes = classes.exit.now;
+          blocks = blocks;
+          must = must;
+          may = may;
+          marks = marks;
+          classes = classes;
         };
       }
-  pub table_lent : (must may marks : Slice)
-      → entry_table must may marks ≡ record { must = must.entry.now; may = may.entry.now; marks = marks.entry.now }
+  pub table_lent : (must may marks : List ℕ)
+      → entry_table must may marks ≡ record { must = must; may = may; marks = marks }
   pub figures_lent : (hit miss : ℕ) (floors ceilings : Slice)
       → entry_figures hit miss floors ceilings
       ≡ record { costs = record { hit = hit; miss = miss }; floors = floors.entry.now; ceilings = ceilings.entry.now }

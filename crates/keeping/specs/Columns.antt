@@ -1,7 +1,6 @@
 -- What functions ask that read records of a plan, or the lists of blocks that share words.
 -- Nothing here is a rule of the tool: contracts of inner functions and laws speak of it.
 use Rattle.std.specs.Prelude.{ℕ, ◌≤◌, ◌<◌, List, length}
-use Rattle.lists.specs.Slices.{Passed, Slice}
 use Rattle.chart.specs.Geometry.{most_blocks}
 use Rattle.plan.specs.Listed.{nodes_in, blocks_in, node_place, node_in, RecordIn}
 use Rattle.keeping.specs.Words.{Group, Grouped, TouchableBy}
@@ -22,8 +21,8 @@ RecordsTouchable columns chosen sets plan nodes = (n : ℕ) → n < nodes → To
 abbrev pub group_of : List ℕ → List ℕ → List ℕ → Group
 group_of columns chosen sets = record { columns = columns; chosen = chosen; sets = sets }
 
-abbrev pub GroupIn : Passed → Passed → Passed → Passed → Type 0
-GroupIn columns plan chosen sets = Grouped (blocks_in plan.now) (group_of columns.now chosen.now sets.now)
+abbrev pub GroupIn : List ℕ → List ℕ → List ℕ → List ℕ → Type 0
+GroupIn columns plan chosen sets = Grouped (blocks_in plan) (group_of columns chosen sets)
 
-abbrev pub group_at : Slice → Slice → Slice → Group
-group_at columns chosen sets = group_of columns.entry.now chosen.entry.now sets.entry.now
+abbrev pub group_at : List ℕ → List ℕ → List ℕ → Group
+group_at columns chosen sets = group_of columns chosen sets

@@ -2,7 +2,6 @@
 -- Nothing here is a rule of the tool: laws and contracts of inner functions speak of it.
 use Rattle.std.specs.Prelude.{ℕ, ◌+◌, ◌-◌, ◌^◌, ◌≤◌, ◌<◌, Bool, true, cond, not, List, ◌⊎◌, ◌≡◌, eqb, get_or}
 use Rattle.lists.specs.Lists.{sum_of}
-use Rattle.lists.specs.Slices.{Passed, Slice}
 use Rattle.flow.specs.Flow.{Cell, holds, cell_at}
 use Rattle.flow.specs.Passing.{CellBelow, Passing, Under}
 use Rattle.flow.specs.Working.{Working}
@@ -73,12 +72,12 @@ AllSwept columns plan chosen before after = EachChosen chosen (blocks_in plan) (
 abbrev pub AllFlooded : List ℕ → List ℕ → List ℕ → List ℕ → List ℕ → Type 0
 AllFlooded columns plan chosen marks words = EachChosen chosen (blocks_in plan) (λ block. Flooded (plan_in columns plan) block marks words)
 
-abbrev pub StandIn : Passed → Passed → Passed → ℕ → Work → Type 0
-StandIn columns plan chosen n work = AllStand columns.now plan.now chosen.now n work
+abbrev pub StandIn : List ℕ → List ℕ → List ℕ → ℕ → Work → Type 0
+StandIn columns plan chosen n work = AllStand columns plan chosen n work
 
-abbrev pub SweptTo : Slice → Slice → Slice → Work → Work → Type 0
-SweptTo columns plan chosen before after = AllSwept columns.entry.now plan.entry.now chosen.entry.now before after
+abbrev pub SweptTo : List ℕ → List ℕ → List ℕ → Work → Work → Type 0
+SweptTo columns plan chosen before after = AllSwept columns plan chosen before after
 
-abbrev pub FloodedIn : Slice → Slice → Slice → Slice → Slice → Type 0
+abbrev pub FloodedIn : List ℕ → List ℕ → List ℕ → List ℕ → List ℕ → Type 0
 FloodedIn columns plan chosen marks words =
-    AllFlooded columns.entry.now plan.entry.now chosen.entry.now marks.exit.now words.exit.now
+    AllFlooded columns plan chosen marks words

@@ -2,7 +2,6 @@
 -- blocks. Nothing here is a rule of the tool: contracts of inner functions and laws speak of it.
 use Rattle.std.specs.Prelude.{ℕ, ◌<◌, cond, not, ◌&&◌, List, ◌≡◌, eqb, get_or}
 use Rattle.lists.specs.Loops.{patch}
-use Rattle.lists.specs.Slices.{Passed}
 use Rattle.flow.specs.Walk.{Reached}
 use Rattle.ages.specs.Plan.{Plan, arrows_in}
 use Rattle.plan.specs.declared.PlannedRecord.{PlannedRecord}
@@ -28,8 +27,8 @@ abbrev pub due_all : List ℕ → List ℕ → List ℕ → ℕ → List ℕ →
 due_all plan chosen marks nodes due = patch due 0 nodes (λ n. due_by chosen (get_or marks n 0) (node_in plan n).what)
 
 -- The same of slices, as a `requires` names them.
-abbrev pub ReachedIn : Passed → Passed → Passed → Type 0
-ReachedIn columns plan marks = MarksReached (plan_in columns.now plan.now) marks.now
+abbrev pub ReachedIn : List ℕ → List ℕ → List ℕ → Type 0
+ReachedIn columns plan marks = MarksReached (plan_in columns plan) marks
 
-abbrev pub ZerosFor : ℕ → Passed → Passed → Passed → Type 0
-ZerosFor nodes marks words due = Zeros nodes marks.now words.now due.now
+abbrev pub ZerosFor : ℕ → List ℕ → List ℕ → List ℕ → Type 0
+ZerosFor nodes marks words due = Zeros nodes marks words due

@@ -2,7 +2,6 @@
 -- Laws hold it to `StaysTold`.
 use Rattle.std.specs.Prelude.{ℕ, zero, suc, ◌+◌, ◌*◌, ◌/◌, ◌%◌, ◌≤◌, ◌<◌, true, false, cond, List, ◌∷◌, ◌⊎◌, ◌≡◌, eqb, get_or}
 use Rattle.lists.specs.Loops.{patch}
-use Rattle.lists.specs.Slices.{Passed}
 use Rattle.chart.specs.Geometry.{most_touches}
 use Rattle.ages.specs.Plan.{ColumnTouch, Plan, touches_in}
 use Rattle.plan.specs.declared.PlannedRecord.{PlannedRecord}
@@ -59,5 +58,5 @@ pub record NextWanted (wanted from count answer : ℕ) : Type 0 where
   pub is_wanted : answer < count → is_set wanted answer ≡ true
 
 -- The same of slices, as a `requires` names them.
-abbrev pub ToldIn : Passed → Passed → ℕ → ℕ → ℕ → Passed → Type 0
-ToldIn columns plan wanted left k stays = ToldSoFar (plan_in columns.now plan.now) wanted left k stays.now
+abbrev pub ToldIn : List ℕ → List ℕ → ℕ → ℕ → ℕ → List ℕ → Type 0
+ToldIn columns plan wanted left k stays = ToldSoFar (plan_in columns plan) wanted left k stays

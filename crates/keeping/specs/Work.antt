@@ -2,7 +2,6 @@
 -- taken. Rules 16.3 to 16.5, of words; nothing else here is a rule of the tool. Laws hold it to the tables of `flow`.
 use Rattle.std.specs.Prelude.{ℕ, ◌+◌, ◌≤◌, max, min, Bool, cond, not, ◌||◌, List, [], ◌∷◌, eqb, ltb, get_or, set, length}
 use Rattle.std.specs.Int.Bits.{bit_or}
-use Rattle.lists.specs.Slices.{Passed, Slice}
 use Rattle.chart.specs.Geometry.{most_nodes}
 use Rattle.chart.specs.Record.{arrows_of}
 use Rattle.plan.specs.Listed.{node_in}
@@ -63,14 +62,14 @@ pub record Roomy (nodes : ℕ) (marks words due : List ℕ) : Type 0 where
   pub due_room : nodes ≤ length due
 
 -- The same of slices, as a `requires` and an `ensures` name them.
-abbrev pub RoomFor : ℕ → Passed → Passed → Passed → Type 0
-RoomFor nodes marks words due = Roomy nodes marks.now words.now due.now
+abbrev pub RoomFor : ℕ → List ℕ → List ℕ → List ℕ → Type 0
+RoomFor nodes marks words due = Roomy nodes marks words due
 
-abbrev pub work_in : Passed → Passed → Passed → Span → Work
-work_in marks words due span = record { marks = marks.now; words = words.now; due = due.now; span = span }
+abbrev pub work_in : List ℕ → List ℕ → List ℕ → Span → Work
+work_in marks words due span = record { marks = marks; words = words; due = due; span = span }
 
-abbrev pub work_before : Slice → Slice → Slice → Span → Work
-work_before marks words due span = work_in marks.entry words.entry due.entry span
+abbrev pub work_before : List ℕ → List ℕ → List ℕ → Span → Work
+work_before marks words due span = work_in marks words due span
 
-abbrev pub work_after : Slice → Slice → Slice → Span → Work
-work_after marks words due span = work_in marks.exit words.exit due.exit span
+abbrev pub work_after : List ℕ → List ℕ → List ℕ → Span → Work
+work_after marks words due span = work_in marks words due span

@@ -25,10 +25,10 @@ fn visit(
     span: Span,
 ) -> Span
     requires drawn_in { DrawnIn columns plan }
-    requires room_for { RoomFor (nodes_in plan.now) marks words due }
-    requires group_in { GroupIn columns plan chosen sets }
+    requires room_for { RoomFor (nodes_in plan.now) marks.old words.old due.old }
+    requires group_in { GroupIn columns.now plan.now chosen.now sets.now }
     requires n_bound { n < nodes_in plan.now }
-    ensures { work_after marks words due result ≡ visited (group_at columns chosen sets) plan.now n (work_before marks words due span) }
+    ensures { work_after marks.new words.new due.new result ≡ visited (group_at columns.now chosen.now sets.now) plan.now n (work_before marks.old words.old due.old span) }
 {
     if due[n] == 0 {
         return span;
@@ -56,10 +56,10 @@ fn sweep(
     to: usize,
 ) -> Span
     requires drawn_in { DrawnIn columns plan }
-    requires room_for { RoomFor (nodes_in plan.now) marks words due }
-    requires group_in { GroupIn columns plan chosen sets × (0 < blocks_in plan.now) }
-    requires stand_in { StandIn columns plan chosen from (work_in marks words due (span_to to)) }
-    ensures { SweptTo columns plan chosen (work_before marks words due (span_to to)) (work_after marks words due result) }
+    requires room_for { RoomFor (nodes_in plan.now) marks.old words.old due.old }
+    requires group_in { GroupIn columns.now plan.now chosen.now sets.now × (0 < blocks_in plan.now) }
+    requires stand_in { StandIn columns.now plan.now chosen.now from (work_in marks.old words.old due.old (span_to to)) }
+    ensures { SweptTo columns.now plan.now chosen.now (work_before marks.old words.old due.old (span_to to)) (work_after marks.new words.new due.new result) }
 {
     let mut span = Span {
         to: to,
@@ -87,10 +87,10 @@ pub(crate) fn flood(
     to: usize,
 )
     requires drawn_in { DrawnIn columns plan }
-    requires room_for { RoomFor (nodes_in plan.now) marks words due }
-    requires group_in { GroupIn columns plan chosen sets × (0 < blocks_in plan.now) }
-    requires stand_in { StandIn columns plan chosen from (work_in marks words due (span_to to)) }
-    ensures { FloodedIn columns plan chosen marks words }
+    requires room_for { RoomFor (nodes_in plan.now) marks.old words.old due.old }
+    requires group_in { GroupIn columns.now plan.now chosen.now sets.now × (0 < blocks_in plan.now) }
+    requires stand_in { StandIn columns.now plan.now chosen.now from (work_in marks.old words.old due.old (span_to to)) }
+    ensures { FloodedIn columns.now plan.now chosen.now marks.new words.new }
 {
     let mut low = from;
     let mut high = to;

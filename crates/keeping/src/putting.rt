@@ -18,7 +18,7 @@ fn put_word(
     out: u64,
 ) -> Span
     requires { (t < length marks.old) × ((t < length words.old) × (t < length due.old)) }
-    ensures { work_after marks words due result ≡ put_word n out t (work_before marks words due span) }
+    ensures { work_after marks.new words.new due.new result ≡ put_word n out t (work_before marks.old words.old due.old span) }
 {
     let old = words[t];
     let new = old | out;
@@ -42,9 +42,9 @@ pub(crate) fn send_word(
     targets: Targets,
     out: u64,
 ) -> Span
-    requires room_for { RoomFor nodes marks words due }
+    requires room_for { RoomFor nodes marks.old words.old due.old }
     requires leads { Leads nodes targets }
-    ensures { work_after marks words due result ≡ sent_all n out (arrows_of targets) (work_before marks words due span) }
+    ensures { work_after marks.new words.new due.new result ≡ sent_all n out (arrows_of targets) (work_before marks.old words.old due.old span) }
 {
     let outs = targets.outs;
     let first = targets.first;

@@ -23,10 +23,10 @@ pub(crate) fn reach(
     due: &mut [u8],
 )
     requires drawn_in { DrawnIn columns plan }
-    requires room_for { RoomFor (nodes_in plan.now) marks words due }
-    requires group_in { GroupIn columns plan chosen sets × (0 < blocks_in plan.now) }
-    requires zeros_for { ZerosFor (nodes_in plan.now) marks words due }
-    ensures { FloodedIn columns plan chosen marks words }
+    requires room_for { RoomFor (nodes_in plan.now) marks.old words.old due.old }
+    requires group_in { GroupIn columns.now plan.now chosen.now sets.now × (0 < blocks_in plan.now) }
+    requires zeros_for { ZerosFor (nodes_in plan.now) marks.old words.old due.old }
+    ensures { FloodedIn columns.now plan.now chosen.now marks.new words.new }
 {
     let entry = plan::entry_in(plan);
     marks[entry] = 1;
@@ -101,10 +101,10 @@ pub(crate) fn flood_again(
     due: &mut [u8],
 )
     requires drawn_in { DrawnIn columns plan }
-    requires room_for { RoomFor (nodes_in plan.now) marks words due }
-    requires group_in { GroupIn columns plan chosen sets × (0 < blocks_in plan.now) }
-    requires reached_in { ReachedIn columns plan marks }
-    ensures { FloodedIn columns plan chosen marks words }
+    requires room_for { RoomFor (nodes_in plan.now) marks.old words.old due.old }
+    requires group_in { GroupIn columns.now plan.now chosen.now sets.now × (0 < blocks_in plan.now) }
+    requires reached_in { ReachedIn columns.now plan.now marks.old }
+    ensures { FloodedIn columns.now plan.now chosen.now marks.new words.new }
 {
     let nodes = plan::nodes_in(plan);
     clear_words(words, nodes);

@@ -41,10 +41,10 @@ fn tell_others(
     stays: &mut [u8],
 )
     requires drawn_in { DrawnIn columns plan }
-    requires room_for { RoomFor (nodes_in plan.now) marks words due }
+    requires room_for { RoomFor (nodes_in plan.now) marks.old words.old due.old }
     requires plan_in_bounds { (blocks_in plan.now ≤ length chosen.old) × (most_touches * nodes_in plan.now ≤ length stays.old) }
     requires sets_listed { SetsListed columns.now (blocks_in plan.now) sets.now }
-    requires reached_in { ReachedIn columns plan marks × ToldIn columns plan wanted rest from stays }
+    requires reached_in { ReachedIn columns.now plan.now marks.old × ToldIn columns.now plan.now wanted rest from stays.old }
     ensures { StaysTold (plan_at columns plan) wanted stays.new }
 {
     let nodes = plan::nodes_in(plan);
@@ -74,11 +74,11 @@ fn tell_all(
     stays: &mut [u8],
 )
     requires drawn_in { DrawnIn columns plan }
-    requires room_for { RoomFor (nodes_in plan.now) marks words due }
-    requires zeros_for { ZerosFor (nodes_in plan.now) marks words due }
+    requires room_for { RoomFor (nodes_in plan.now) marks.old words.old due.old }
+    requires zeros_for { ZerosFor (nodes_in plan.now) marks.old words.old due.old }
     requires plan_in_bounds { (blocks_in plan.now ≤ length chosen.old) × (most_touches * nodes_in plan.now ≤ length stays.old) }
     requires sets_len { (length sets.old ≡ most_keys) × ((key : ℕ) → key < most_keys → get_or sets.old key 0 ≡ 0) }
-    requires first_bound { (first < blocks_in plan.now) × ToldIn columns plan wanted wanted first stays }
+    requires first_bound { (first < blocks_in plan.now) × ToldIn columns.now plan.now wanted wanted first stays.old }
     ensures { StaysTold (plan_at columns plan) wanted stays.new }
 {
     let nodes = plan::nodes_in(plan);

@@ -14,7 +14,7 @@ use plan::PlannedRecord;
 // What is told of a touch of a column where this word is held: anew if the column is one of the blocks, else as it was.
 fn told_by(columns: &[u8], chosen: &[u8], sets: &[u64], word: u64, column: usize, old: u8) -> u8
     requires { Touchable columns.now chosen.now sets.now column }
-    ensures { result ≡ told_by (group_at columns chosen sets) word column old }
+    ensures { result ≡ told_by (group_at columns.now chosen.now sets.now) word column old }
 {
     if wide(chosen[column]) == column {
         return stays_in(columns, chosen, sets, word, column);
@@ -32,7 +32,7 @@ fn first_told(
     old: u8,
 ) -> u8
     requires { TouchableBy columns.now chosen.now sets.now planned }
-    ensures { result ≡ told_of (group_at columns chosen sets) planned word 0 old }
+    ensures { result ≡ told_of (group_at columns.now chosen.now sets.now) planned word 0 old }
 {
     let PlannedRecord::Reference(reference) = planned else {
         return old;
@@ -50,7 +50,7 @@ fn second_told(
     old: u8,
 ) -> u8
     requires { TouchableBy columns.now chosen.now sets.now planned }
-    ensures { result ≡ told_of (group_at columns chosen sets) planned word 1 old }
+    ensures { result ≡ told_of (group_at columns.now chosen.now sets.now) planned word 1 old }
 {
     let PlannedRecord::Reference(reference) = planned else {
         return old;
@@ -76,7 +76,7 @@ pub(crate) fn tell_chosen(
 )
     requires nodes_in_bounds { (node_place nodes ≤ length plan.now) × ((nodes ≤ length words.now) × (most_touches * nodes ≤ length stays.old)) }
     requires records_touchable { RecordsTouchable columns.now chosen.now sets.now plan.now nodes }
-    ensures { stays.new ≡ told_all (group_at columns chosen sets) plan.now words.now nodes stays.old }
+    ensures { stays.new ≡ told_all (group_at columns.now chosen.now sets.now) plan.now words.now nodes stays.old }
 {
     for n in 0..nodes {
         let node = plan::node_in(plan, n);

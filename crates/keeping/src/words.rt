@@ -16,7 +16,7 @@ pub(crate) fn wide(number: u8) -> usize
 // The word after a touch of column m (rule 16.3).
 pub(crate) fn touch_word(columns: &[u8], chosen: &[u8], sets: &[u64], word: u64, m: usize) -> u64
     requires { Touchable columns.now chosen.now sets.now m }
-    ensures { result ≡ word_touched (group_at columns chosen sets) m word }
+    ensures { result ≡ word_touched (group_at columns.now chosen.now sets.now) m word }
 {
     let block = wide(chosen[m]);
     if block == m {
@@ -38,7 +38,7 @@ pub(crate) fn step_word(
     word: u64,
 ) -> u64
     requires { TouchableBy columns.now chosen.now sets.now planned }
-    ensures { result ≡ word_after (group_at columns chosen sets) planned word }
+    ensures { result ≡ word_after (group_at columns.now chosen.now sets.now) planned word }
 {
     let PlannedRecord::Reference(reference) = planned else {
         return word;
@@ -55,7 +55,7 @@ pub(crate) fn step_word(
 // Whether fewer blocks are in the set than the limit of the block's column (rule 8.1): 1 where it is so, 0 where not.
 pub(crate) fn stays_in(columns: &[u8], chosen: &[u8], sets: &[u64], word: u64, block: usize) -> u8
     requires { Touchable columns.now chosen.now sets.now block }
-    ensures { result ≡ stays_in (group_at columns chosen sets) block word }
+    ensures { result ≡ stays_in (group_at columns.now chosen.now sets.now) block word }
 {
     let key = wide(columns[block]);
     let members = word & sets[key];

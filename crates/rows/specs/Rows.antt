@@ -2,7 +2,6 @@
 -- has `most_blocks` places, the first of them for the chart's blocks: no answer depends on the rest.
 -- What else is here inner functions promise one another.
 use Rattle.std.specs.Prelude.{ℕ, ◌+◌, ◌*◌, ◌<◌, List, ◌≡◌, get_or}
-use Rattle.lists.specs.Slices.{Slice}
 use Rattle.chart.specs.Geometry.{most_blocks}
 use Rattle.cache.specs.Ages.{Columns, Ages, age_of, must_after, may_after}
 use Rattle.flow.specs.Walk.{in_turn}
@@ -35,11 +34,11 @@ abbrev pub as_row : Ages → Row
 as_row a = record { must = a.must; may = a.may }
 
 -- The ages in two lent lists, as the clauses of a contract name them: at entry and at exit.
-abbrev pub entry_ages : Slice → Slice → Ages
-entry_ages must may = record { must = must.entry.now; may = may.entry.now }
+abbrev pub entry_ages : List ℕ → List ℕ → Ages
+entry_ages must may = record { must = must; may = may }
 
-abbrev pub exit_ages : Slice → Slice → Ages
-exit_ages must may = record { must = must.exit.now; may = may.exit.now }
+abbrev pub exit_ages : List ℕ → List ℕ → Ages
+exit_ages must may = record { must = must; may = may }
 
 -- Rules 3.3 and 6.5: the touches in turn, each as rules 6.3 and 6.4 say; a bare step has none and changes no age.
 abbrev pub after_record : Columns → PlannedRecord → Ages → Ages

@@ -82,7 +82,7 @@ pub fn touch(
     requires m_lt_width { (m < width) × (width ≤ most_blocks) }
     requires width_in_bounds { (base + width ≤ length must.now) × (base + width ≤ length may.now) }
     requires most_blocks_in_bounds { (3 * most_blocks ≤ length columns.now) × ((width ≤ length musts.old) × (width ≤ length mays.old)) }
-    ensures { TouchedFrom width columns.now m base (entry_ages must may) (exit_ages musts mays) }
+    ensures { TouchedFrom width columns.now m base (entry_ages must.now may.now) (exit_ages musts.new mays.new) }
 {
     let h = must[base + m];
     let g = may[base + m];

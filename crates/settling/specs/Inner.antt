@@ -1,7 +1,6 @@
 -- What passes over lent tables promise: the buffers hold, at each point, the table that `flow` defines. Nothing here is a rule of the tool:
 -- rules 9.1 to 9.5 are in `flow`.
 use Rattle.std.specs.Prelude.{ℕ, ◌*◌, ◌≤◌, Bool, true, false, cond, ◌≡◌, List, [], ◌∷◌, length}
-use Rattle.lists.specs.Slices.{Passed, Slice}
 use Rattle.bits.specs.Bits.{is_member, with_member}
 use Rattle.cache.specs.Ages.{Ages}
 use Rattle.flow.specs.Pass.{Outcome, settled, spent, take_node, take_nodes, pass, before, after_passes, settle}
@@ -70,21 +69,21 @@ pub record PassedIn (plan : Plan) (lent : Lent) (after : DueRun) : Type 0 where
   pub working : Working (plan_flow plan) (table_of plan after.lent) (is_member after.due)
 
 -- The same of slices, as a `requires` and an `ensures` name them.
-abbrev pub BegunIn : Passed → Passed → Passed → Passed → Passed → Type 0
-BegunIn columns plan must may marks = Begun (plan_in columns.now plan.now) (lent_table must may marks)
+abbrev pub BegunIn : List ℕ → List ℕ → List ℕ → List ℕ → List ℕ → Type 0
+BegunIn columns plan must may marks = Begun (plan_in columns plan) (lent_table must may marks)
 
-abbrev pub StandsIn : Passed → Passed → ℕ → Passed → Passed → Passed → Passed → Type 0
-StandsIn columns plan n must may marks due = StandsAt (plan_in columns.now plan.now) n (lent_table must may marks) due.now
+abbrev pub StandsIn : List ℕ → List ℕ → ℕ → List ℕ → List ℕ → List ℕ → List ℕ → Type 0
+StandsIn columns plan n must may marks due = StandsAt (plan_in columns plan) n (lent_table must may marks) due
 
-abbrev pub entry_due : Slice → Slice → Slice → Slice → Bool → DueRun
-entry_due must may marks due changed = record { lent = entry_table must may marks; changed = changed; due = due.entry.now }
+abbrev pub entry_due : List ℕ → List ℕ → List ℕ → List ℕ → Bool → DueRun
+entry_due must may marks due changed = record { lent = entry_table must may marks; changed = changed; due = due }
 
-abbrev pub exit_due : Slice → Slice → Slice → Slice → Bool → DueRun
-exit_due must may marks due changed = record { lent = exit_table must may marks; changed = changed; due = due.exit.now }
+abbrev pub exit_due : List ℕ → List ℕ → List ℕ → List ℕ → Bool → DueRun
+exit_due must may marks due changed = record { lent = exit_table must may marks; changed = changed; due = due }
 
 -- There is room for a set of nodes.
-abbrev pub SetFor : ℕ → Passed → Type 0
-SetFor nodes due = nodes ≤ 64 * length due.now
+abbrev pub SetFor : ℕ → List ℕ → Type 0
+SetFor nodes due = nodes ≤ 64 * length due
 
 -- How many passes have been made, and what that tells of settling.
 abbrev pub passes_made : ℕ → Settling → ℕ

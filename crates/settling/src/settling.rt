@@ -28,9 +28,9 @@ pub fn pass(
     due: &mut [u64],
 ) -> bool
     requires drawn_in { DrawnIn columns plan }
-    requires room_for { RoomFor plan must may marks × SetFor (nodes_in plan.now) due }
-    requires stands_in { StandsIn columns plan 0 must may marks due }
-    ensures { PassedIn (plan_at columns plan) (entry_table must may marks) (exit_due must may marks due result) }
+    requires room_for { RoomFor plan.now must.old may.old marks.old × SetFor (nodes_in plan.now) due.old }
+    requires stands_in { StandsIn columns.now plan.now 0 must.old may.old marks.old due.old }
+    ensures { PassedIn (plan_at columns plan) (entry_table must.old may.old marks.old) (exit_due must.new may.new marks.new due.new result) }
 {
     let nodes = plan::nodes_in(plan);
     let mut changed = false;
@@ -53,9 +53,9 @@ pub fn settle(
     allowance: usize,
 ) -> Settling
     requires drawn_in { DrawnIn columns plan }
-    requires room_for { RoomFor plan must may marks }
-    requires begun_in { BegunIn columns plan must may marks }
-    ensures { SettledIn (plan_at columns plan) allowance (entry_table must may marks) result (exit_table must may marks) }
+    requires room_for { RoomFor plan.now must.old may.old marks.old }
+    requires begun_in { BegunIn columns.now plan.now must.old may.old marks.old }
+    ensures { SettledIn (plan_at columns plan) allowance (entry_table must.old may.old marks.old) result (exit_table must.new may.new marks.new) }
 {
     let mut due = [0u64; WORDS];
     bits::put(&mut due, plan::entry_in(plan));

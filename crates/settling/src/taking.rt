@@ -27,8 +27,8 @@ fn send_to<'a>(
 ) -> bool
     requires blocks_in_bounds { (blocks ≤ length musts.now) × (blocks ≤ length mays.now) }
     requires roomy { Roomy nodes blocks must.old may.old marks.old }
-    requires t_lt_nodes { (t < nodes) × SetFor nodes due }
-    ensures { exit_due must may marks due result ≡ sent_to blocks (entry_ages musts mays) t (entry_due must may marks due changed) }
+    requires t_lt_nodes { (t < nodes) × SetFor nodes due.old }
+    ensures { exit_due must.new may.new marks.new due.new result ≡ sent_to blocks (entry_ages musts.now mays.now) t (entry_due must.old may.old marks.old due.old changed) }
 {
     let met = tables::meet_row(must, may, marks, blocks, t, musts, mays);
     if met {
@@ -53,8 +53,8 @@ fn send_row<'a>(
 ) -> bool
     requires blocks_in_bounds { (blocks ≤ length musts.now) × (blocks ≤ length mays.now) }
     requires roomy { Roomy nodes blocks must.old may.old marks.old }
-    requires leads { Leads nodes targets × SetFor nodes due }
-    ensures { exit_due must may marks due result ≡ sent_all blocks (entry_ages musts mays) (arrows_of targets) (entry_due must may marks due changed) }
+    requires leads { Leads nodes targets × SetFor nodes due.old }
+    ensures { exit_due must.new may.new marks.new due.new result ≡ sent_all blocks (entry_ages musts.now mays.now) (arrows_of targets) (entry_due must.old may.old marks.old due.old changed) }
 {
     let outs = targets.outs;
     let first = targets.first;
@@ -86,10 +86,10 @@ pub(crate) fn take_node(
     changed: bool,
 ) -> bool
     requires drawn_in { DrawnIn columns plan }
-    requires room_for { RoomFor plan must may marks × SetFor (nodes_in plan.now) due }
-    requires stands_in { StandsIn columns plan n must may marks due }
+    requires room_for { RoomFor plan.now must.old may.old marks.old × SetFor (nodes_in plan.now) due.old }
+    requires stands_in { StandsIn columns.now plan.now n must.old may.old marks.old due.old }
     requires n_bound { (n < nodes_in plan.now) × (is_member due.old n ≡ true) }
-    ensures { TakenIn (plan_at columns plan) n (entry_due must may marks due changed) (exit_due must may marks due result) }
+    ensures { TakenIn (plan_at columns plan) n (entry_due must.old may.old marks.old due.old changed) (exit_due must.new may.new marks.new due.new result) }
 {
     bits::take_out(due, n);
     let nodes = plan::nodes_in(plan);

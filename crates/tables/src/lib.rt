@@ -76,7 +76,7 @@ fn touch_row(
     requires m_lt_blocks { (m < blocks) × (blocks ≤ most_blocks) }
     requires blocks_in_bounds { (base + blocks ≤ length must.now) × (base + blocks ≤ length may.now) }
     requires most_blocks_in_bounds { (3 * most_blocks ≤ length columns.now) × ((length musts.old ≡ most_blocks) × (length mays.old ≡ most_blocks)) }
-    ensures { AgesAgree blocks (exit_ages musts mays) (touch_ages (columns_by columns.now most_blocks) m (ages_from blocks base must.now may.now)) }
+    ensures { AgesAgree blocks (exit_ages musts.new mays.new) (touch_ages (columns_by columns.now most_blocks) m (ages_from blocks base must.now may.now)) }
 {
     let width = width_of(blocks, shorter(must.len(), may.len()) - base);
     rows::touch(must, may, base, width, columns, m, musts, mays);
@@ -97,7 +97,7 @@ pub fn row_after(
     requires loads { Loads columns.now must.now may.now blocks n }
     requires musts_len { (length musts.old ≡ most_blocks) × (length mays.old ≡ most_blocks) }
     requires record_in { RecordIn blocks planned }
-    ensures { AgesAgree blocks (exit_ages musts mays) (row_after columns.now must.now may.now blocks n planned) }
+    ensures { AgesAgree blocks (exit_ages musts.new mays.new) (row_after columns.now must.now may.now blocks n planned) }
 {
     let base = n * blocks;
     let PlannedRecord::Reference(reference) = planned else {
@@ -196,7 +196,7 @@ pub fn meet_row(
 ) -> bool
     requires blocks_in_bounds { (blocks ≤ length musts.now) × ((blocks ≤ length mays.now) × (n < length marks.old)) }
     requires blocks_in_bounds_2 { (n * blocks + blocks ≤ length must.old) × (n * blocks + blocks ≤ length may.old) }
-    ensures { exit_run must may marks result ≡ met_into blocks n (entry_ages musts mays) (entry_run must may marks false) }
+    ensures { exit_run must.new may.new marks.new result ≡ met_into blocks n (entry_ages musts.now mays.now) (entry_run must.old may.old marks.old false) }
 {
     let base = n * blocks;
     if marks[n] == 0 {

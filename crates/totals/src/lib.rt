@@ -38,8 +38,8 @@ fn total_drawn(
     ceilings: &[u16],
 ) -> Totals
     requires drawn_in { DrawnIn columns plan }
-    requires room_for { RoomFor plan must may marks }
-    ensures { result ≡ totalled_by (plan_at columns plan) (entry_table must may marks) (entry_figures tariff.hit tariff.miss floors ceilings) }
+    requires room_for { RoomFor plan.now must.now may.now marks.now }
+    ensures { result ≡ totalled_by (plan_at columns plan) (entry_table must.now may.now marks.now) (entry_figures tariff.hit tariff.miss floors ceilings) }
 {
     let nodes = plan::nodes_in(plan);
     let whole = (floors.len() == nodes) & (ceilings.len() == nodes);
@@ -76,8 +76,8 @@ pub fn total(
     floors: &[u16],
     ceilings: &[u16],
 ) -> Totals
-    ensures value { result ≡ totals chart.now (entry_table must may marks) (entry_figures hit miss floors ceilings) }
-    ensures result_value { totals_say result ≡ total_says chart.now (entry_table must may marks) (entry_figures hit miss floors ceilings) }
+    ensures value { result ≡ totals chart.now (entry_table must.now may.now marks.now) (entry_figures hit miss floors ceilings) }
+    ensures result_value { totals_say result ≡ total_says chart.now (entry_table must.now may.now marks.now) (entry_figures hit miss floors ceilings) }
 {
     let mut columns = [0u8; plan::COLUMNS];
     let mut plan = [0u16; plan::LENGTH];

@@ -110,10 +110,10 @@ pub(crate) fn sum_nodes(
     ceilings: &[u16],
 ) -> Sums
     requires drawn_in { DrawnIn columns plan }
-    requires room_for { RoomFor plan must may marks }
+    requires room_for { RoomFor plan.now must.now may.now marks.now }
     requires plan_in_bounds { (nodes_in plan.now ≤ length floors.now) × (nodes_in plan.now ≤ length ceilings.now) }
     requires hit_le_miss { tariff.hit ≤ tariff.miss }
-    ensures { result ≡ both_sums (plan_at columns plan) (table_of (plan_at columns plan) (entry_table must may marks)) (entry_figures tariff.hit tariff.miss floors ceilings) }
+    ensures { result ≡ both_sums (plan_at columns plan) (table_of (plan_at columns plan) (entry_table must.now may.now marks.now)) (entry_figures tariff.hit tariff.miss floors ceilings) }
 {
     let nodes = plan::nodes_in(plan);
     let mut classes = [0u8; Geometry::CLASSES];

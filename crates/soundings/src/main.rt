@@ -16,121 +16,98 @@ use crate::sounding::{
 use chart::{Node, Record};
 use checker::Checked;
 use deadline::Judged;
-use libc::STDOUT_FILENO;
 use refusals::Refusal;
+use std::io;
 use totals::Totals;
 
-// Writes a word and a number.
-fn print_named(word: &[u8], n: u64) {
-    io::write_all(STDOUT_FILENO, word);
-    io::print_decimal(STDOUT_FILENO, n);
-}
-
 // Writes a refusal, as `refused 9 at 2`.
-fn print_refusal(refusal: Refusal) {
-    print_named(b"refused ", refusal.number());
-    print_named(b" at ", refusal.place() as u64);
-    io::write_all(STDOUT_FILENO, b"\n");
+fn print_refusal(rt: &impl Print, refusal: Refusal) -> io::Result<()> {
+    let number = refusal.number();
+    let place = refusal.place();
+    println!(rt; "refused {number} at {place}")
 }
 
 // Writes what the checker answered.
-fn print_checked(answer: Checked) {
+fn print_checked(rt: &impl Print, answer: Checked) -> io::Result<()> {
     match answer {
-        Checked::Yes => {
-            io::write_all(STDOUT_FILENO, b"the checker passes the table\n");
-        }
-        Checked::No => {
-            io::write_all(STDOUT_FILENO, b"the checker fails the table\n");
-        }
-        Checked::Refused(refusal) => print_refusal(refusal),
+        Checked::Yes => println!(rt; "the checker passes the table"),
+        Checked::No => println!(rt; "the checker fails the table"),
+        Checked::Refused(refusal) => print_refusal(rt, refusal),
     }
 }
 
 // Writes what the totals answered, as `low 2 high 20`.
-fn print_totals(answer: Totals) {
+fn print_totals(rt: &impl Print, answer: Totals) -> io::Result<()> {
     match answer {
-        Totals::Between { low, high } => {
-            print_named(b"low ", low);
-            print_named(b" high ", high);
-            io::write_all(STDOUT_FILENO, b"\n");
-        }
-        Totals::Refused(refusal) => print_refusal(refusal),
+        Totals::Between { low, high } => println!(rt; "low {low} high {high}"),
+        Totals::Refused(refusal) => print_refusal(rt, refusal),
     }
 }
 
 // Writes what was answered for a deadline.
-fn print_judged(answer: Judged) {
+fn print_judged(rt: &impl Print, answer: Judged) -> io::Result<()> {
     match answer {
-        Judged::Met { low: _, high: _ } => {
-            io::write_all(STDOUT_FILENO, b"the deadline is met\n");
-        }
-        Judged::NotMet { low: _, high: _ } => {
-            io::write_all(STDOUT_FILENO, b"the deadline is not met\n");
-        }
-        Judged::Refused(refusal) => print_refusal(refusal),
+        Judged::Met { low: _, high: _ } => println!(rt; "the deadline is met"),
+        Judged::NotMet { low: _, high: _ } => println!(rt; "the deadline is not met"),
+        Judged::Refused(refusal) => print_refusal(rt, refusal),
     }
 }
 
 // Writes what a record does, as `writes 64 to 67`.
-fn print_record(what: Record) {
+fn print_record(rt: &impl Print, what: Record) -> io::Result<()> {
     let Record::Reference(reference) = what else {
-        io::write_all(STDOUT_FILENO, b"step");
-        return;
+        return print!(rt; "step");
     };
+    let address = reference.address;
+    let last = reference.last;
     if reference.write {
-        print_named(b"writes ", reference.address as u64);
+        print!(rt; "writes {address} to {last}")
     } else {
-        print_named(b"reads ", reference.address as u64);
+        print!(rt; "reads {address} to {last}")
     }
-    print_named(b" to ", reference.last);
 }
 
 // Writes a node, as `writes 64 to 67, 1 arrows, first 2, second 0`.
-fn print_node(node: Node) {
+fn print_node(rt: &impl Print, node: Node) -> io::Result<()> {
     let what = node.what;
     let targets = node.targets;
-    print_record(what);
-    print_named(b", ", targets.outs as u64);
-    print_named(b" arrows, first ", targets.first as u64);
-    print_named(b", second ", targets.second as u64);
-    io::write_all(STDOUT_FILENO, b"\n");
+    print_record(rt, what)?;
+    let outs = targets.outs;
+    let first = targets.first;
+    let second = targets.second;
+    println!(rt; ", {outs} arrows, first {first}, second {second}")
 }
 
 // Writes which claims are proved: it calls what promises them.
-fn print_demanded() {
+fn print_demanded(rt: &impl Print) -> io::Result<()> {
     asked_anything();
-    io::write_all(STDOUT_FILENO, b"demand 1 is proved\n");
+    println!(rt; "demand 1 is proved")?;
     says_most();
-    io::write_all(STDOUT_FILENO, b"demand 2 is proved\n");
+    println!(rt; "demand 2 is proved")?;
     says_so();
-    io::write_all(STDOUT_FILENO, b"demand 3 is proved\n");
+    println!(rt; "demand 3 is proved")?;
     kept_in_time();
-    io::write_all(
-        STDOUT_FILENO,
-        b"that figures keep a met deadline is proved\n",
-    );
+    println!(rt; "that figures keep a met deadline is proved")?;
     bounds_anything();
-    io::write_all(STDOUT_FILENO, b"when a certificate has a bound is proved\n");
+    println!(rt; "when a certificate has a bound is proved")?;
     kept_within_bounds();
-    io::write_all(
-        STDOUT_FILENO,
-        b"that walks that keep the facts keep within bounds is proved\n",
-    );
+    println!(rt; "that walks that keep the facts keep within bounds is proved")?;
     comes_back();
-    io::write_all(STDOUT_FILENO, b"the round trip is proved\n");
+    println!(rt; "the round trip is proved")?;
     sounded();
-    io::write_all(STDOUT_FILENO, b"the soundings are proved\n");
+    println!(rt; "the soundings are proved")?;
     told();
-    io::write_all(STDOUT_FILENO, b"what is told to C is proved\n");
+    println!(rt; "what is told to C is proved")
 }
 
-// Writes what is answered by the checker, by the totals and for a deadline, a node that writes, and what is proved.
-fn main() {
-    print_checked(loop_checked());
-    print_totals(loop_totals());
-    print_judged(loop_judged());
+// Writes what is answered by the checker, by the totals and for a deadline, a node that writes, and what is proved. It ends with the first write
+// that fails.
+fn main(rt: HostRuntime) -> io::Result<()> {
+    print_checked(&rt, loop_checked())?;
+    print_totals(&rt, loop_totals())?;
+    print_judged(&rt, loop_judged())?;
     let bytes = three_kinds();
-    print_node(written_node());
+    print_node(&rt, written_node())?;
     are_bytes(&bytes);
-    print_demanded();
+    print_demanded(&rt)
 }

@@ -1,4 +1,4 @@
-// The analysis as a C function. It returns the refusal's number, 0 for none, and leaves what `analysis::analyse` leaves; without room for its
+// The analysis as a function for C. It returns the refusal's number, 0 for none, and leaves what `analysis::analyse` leaves; without room for its
 // answer it returns 11, and has done nothing.
 ghost use Rattle.std.specs.Prelude.{◌≡◌};
 ghost use Rattle.analysis.specs.Analysis.{entry_buffers, exit_buffers, analysed_says, analysed, analyse_says};
@@ -30,8 +30,7 @@ fn analysed_numbers(answer: Analysed) -> [u64; 4]
 
 // Tells what `analysis::analyse` answers: number, place, pass count and B (rule 12.9). Returns the number, 0 for no refusal; or 11 for fewer than
 // four places, and then all that is lent stays as it was.
-#[unsafe(no_mangle)]
-pub extern "C" fn veilbuzz_analyse(
+pub fn veilbuzz_analyse(
     chart: &[u8],
     allowance: usize,
     blocks: &mut [u32],

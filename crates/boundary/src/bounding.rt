@@ -1,4 +1,4 @@
-// The bound of a certificate as a C function. It returns the refusal's number, 0 for none; without room for its answer it returns 11, and has done
+// The bound of a certificate as a function for C. It returns the refusal's number, 0 for none; without room for its answer it returns 11, and has done
 // nothing.
 ghost use Rattle.std.specs.Prelude.{◌≡◌};
 ghost use Rattle.tables.specs.Contract.{entry_table};
@@ -43,8 +43,7 @@ fn bound_numbers(answer: Bounded) -> [u64; 3]
 
 // Tells what `certificate::bound` answers: number, place and the bound (rules 12.9 and 18.10). Returns the number, 0 for no refusal; or 11 for fewer than
 // three places, and then all that is lent stays as it was.
-#[unsafe(no_mangle)]
-pub extern "C" fn veilbuzz_bound(
+pub fn veilbuzz_bound(
     chart: &[u8],
     must: &[u8],
     may: &[u8],

@@ -1,4 +1,4 @@
-// The checker as a C function. It returns the refusal's number, 0 for none, whether the table passes or not; without room for its answer it returns
+// The checker as a function for C. It returns the refusal's number, 0 for none, whether the table passes or not; without room for its answer it returns
 // 11, and has done nothing.
 ghost use Rattle.std.specs.Prelude.{◌≡◌};
 ghost use Rattle.tables.specs.Contract.{entry_table};
@@ -21,8 +21,7 @@ fn checked_numbers(answer: Checked) -> [u64; 3]
 
 // Tells what `checker::check` answers: number, place, and 1 for yes or 0 for no (rule 12.9). Returns the number, 0 for no refusal; or 11 for fewer
 // than three places, and then all that is lent stays as it was.
-#[unsafe(no_mangle)]
-pub extern "C" fn veilbuzz_check(
+pub fn veilbuzz_check(
     chart: &[u8],
     must: &[u8],
     may: &[u8],

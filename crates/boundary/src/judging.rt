@@ -1,4 +1,4 @@
-// The deadline as a C function. It returns the refusal's number, 0 for none; without room for its answer, or for the two figures, it returns 11,
+// The deadline as a function for C. It returns the refusal's number, 0 for none; without room for its answer, or for the two figures, it returns 11,
 // and has done nothing.
 ghost use Rattle.std.specs.Prelude.{◌≡◌, ◌≤◌, [], ◌∷◌, length};
 ghost use Rattle.lists.specs.Lists.{written};
@@ -65,8 +65,7 @@ fn tell_figures(answer: Judged, lent: &mut [f64])
 // Tells what `deadline::judge` answers: number, place, and 1 where the deadline is met or 0 where it is not, and the low and the high figure in a
 // list of their own (rules 12.9 and 17.6). Returns the number, 0 for no refusal; or 11 for fewer than three places or fewer than two for the
 // figures, and then all that is lent stays as it was.
-#[unsafe(no_mangle)]
-pub extern "C" fn veilbuzz_deadline(
+pub fn veilbuzz_deadline(
     chart: &[u8],
     must: &[u8],
     may: &[u8],

@@ -1,5 +1,6 @@
 // The library for callers in other languages: numbers, and runs of numbers with their lengths. include/veilbuzz.h declares it in C. Each function
-// answers for whatever is lent: it returns a refusal's number, or 0, and tells the rest by rules 12.9, 17.6 and 18.10.
+// answers for whatever is lent: it returns a refusal's number, or 0, and tells the rest by rules 12.9, 17.6 and 18.10. The crate `boundary_c` exports
+// them to C, under the same names.
 //
 // A caller answers for it that each pointer has its length behind it, aligned and set to something, that no buffer that is written overlaps
 // another, and that nobody else writes to one meanwhile, or reads what is written. A pointer whose length is 0 may be null. For `veilbuzz_deadline`

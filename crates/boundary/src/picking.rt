@@ -1,4 +1,4 @@
-// One node of a chart, and the list of its blocks, as C functions. Each returns the refusal's number, 0 for none, and leaves what the functions of
+// One node of a chart, and the list of its blocks, as functions for C. Each returns the refusal's number, 0 for none, and leaves what the functions of
 // `fields` leave; without room for its answer, or for a node's fields, it returns 11, and has done nothing.
 ghost use Rattle.std.specs.Prelude.{◌≡◌, ◌≤◌, length};
 ghost use Rattle.fields.specs.Fields.{node_read, node_says, read_node_says, blocks_read, blocks_say, read_blocks_say};
@@ -53,13 +53,7 @@ fn tell_fields(answer: NodeRead, lent: &mut [u64])
 // Tells what `fields::read_node` answers: number, place, and 1 for a node that there is or 0 for one that there is not, and the node's fields in a
 // list of its own (rule 12.9). Returns the number, 0 for no refusal; or 11 for fewer than three places or fewer than six for the fields, and then
 // all that is lent stays as it was.
-#[unsafe(no_mangle)]
-pub extern "C" fn veilbuzz_node(
-    chart: &[u8],
-    node: usize,
-    fields: &mut [u64],
-    answer: &mut [u64],
-) -> u64
+pub fn veilbuzz_node(chart: &[u8], node: usize, fields: &mut [u64], answer: &mut [u64]) -> u64
     ensures value { result ≡ returned (node_short fields.old answer.old) (read_node_says chart.now node).number }
     ensures fields_after { fields.new ≡ left (node_short fields.old answer.old) fields.old (fields_told (node_read chart.now node) fields.old) }
     ensures answer_after { answer.new ≡ told (node_short fields.old answer.old) (node_numbers (read_node_says chart.now node)) answer.old }
@@ -77,8 +71,7 @@ pub extern "C" fn veilbuzz_node(
 
 // Tells what `fields::read_blocks` answers: number, place and B (rule 12.9). Returns the number, 0 for no refusal; or 11 for fewer than three
 // places, and then all that is lent stays as it was.
-#[unsafe(no_mangle)]
-pub extern "C" fn veilbuzz_blocks(chart: &[u8], blocks: &mut [u32], answer: &mut [u64]) -> u64
+pub fn veilbuzz_blocks(chart: &[u8], blocks: &mut [u32], answer: &mut [u64]) -> u64
     ensures value { result ≡ returned (blocks_short answer.old) (read_blocks_say chart.now blocks.old).number }
     ensures blocks_after { blocks.new ≡ left (blocks_short answer.old) blocks.old (blocks_read chart.now blocks.old).blocks }
     ensures answer_after { answer.new ≡ told (blocks_short answer.old) (blocks_numbers (read_blocks_say chart.now blocks.old)) answer.old }

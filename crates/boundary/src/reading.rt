@@ -1,4 +1,4 @@
-// The reader as a C function. It returns the refusal's number, 0 for none; without room for its answer, or for the header, it returns 11, and
+// The reader as a function for C. It returns the refusal's number, 0 for none; without room for its answer, or for the header, it returns 11, and
 // has done nothing. The blocks are not told.
 ghost use Rattle.std.specs.Prelude.{◌≡◌, ◌≤◌, length};
 ghost use Rattle.chart.specs.Reading.{reading, verdict_says, read_says};
@@ -39,8 +39,7 @@ fn tell_header(verdict: Verdict, lent: &mut [u64])
 
 // Tells what `chart::read` answers: number, place and B, and an accepted chart's header in a list of its own (rule 12.9). Returns the number, 0 for
 // no refusal; or 11 for fewer than three places or fewer than six for the header, and then all that is lent stays as it was.
-#[unsafe(no_mangle)]
-pub extern "C" fn veilbuzz_read(chart: &[u8], header: &mut [u64], answer: &mut [u64]) -> u64
+pub fn veilbuzz_read(chart: &[u8], header: &mut [u64], answer: &mut [u64]) -> u64
     ensures value { result ≡ returned (read_short header.old answer.old) (read_says chart.now).number }
     ensures header_after { header.new ≡ left (read_short header.old answer.old) header.old (header_told (reading chart.now).verdict header.old) }
     ensures answer_after { answer.new ≡ told (read_short header.old answer.old) (read_numbers (read_says chart.now)) answer.old }

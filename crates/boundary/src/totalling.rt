@@ -1,4 +1,4 @@
-// The totals as a C function. It returns the refusal's number, 0 for none; without room for its answer it returns 11, and has done nothing.
+// The totals as a function for C. It returns the refusal's number, 0 for none; without room for its answer it returns 11, and has done nothing.
 ghost use Rattle.std.specs.Prelude.{◌≡◌};
 ghost use Rattle.tables.specs.Contract.{entry_table};
 ghost use Rattle.totals.specs.Totals.{entry_figures, totals_say, total_says};
@@ -23,8 +23,7 @@ fn totals_numbers(answer: Totals) -> [u64; 4]
 
 // Tells what `totals::total` answers: number, place, the low and the high total (rule 12.9). Returns the number, 0 for no refusal; or 11 for fewer
 // than four places, and then all that is lent stays as it was.
-#[unsafe(no_mangle)]
-pub extern "C" fn veilbuzz_total(
+pub fn veilbuzz_total(
     chart: &[u8],
     must: &[u8],
     may: &[u8],

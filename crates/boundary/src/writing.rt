@@ -1,4 +1,4 @@
-// The writer as a C function. It returns the refusal's number, 0 for none, and leaves what `writer::write` leaves; without room for its answer it
+// The writer as a function for C. It returns the refusal's number, 0 for none, and leaves what `writer::write` leaves; without room for its answer it
 // returns 11, and has done nothing.
 ghost use Rattle.std.specs.Prelude.{◌≡◌};
 ghost use Rattle.writer.specs.Writer.{wrote, wrote_says, write_says};
@@ -20,8 +20,7 @@ fn wrote_numbers(answer: Wrote) -> [u64; 3]
 
 // Tells what `writer::write` answers: number, place and how many bytes were written (rule 12.9). Returns the number, 0 for no refusal; or 11 for
 // fewer than three places, and then all that is lent stays as it was.
-#[unsafe(no_mangle)]
-pub extern "C" fn veilbuzz_write(
+pub fn veilbuzz_write(
     line: u64,
     sets: u64,
     ways: u64,

@@ -99,9 +99,9 @@ pub extern "C" fn veilbuzz_analyse(
     classes: &mut [u8],
     answer: &mut [u64],
 ) -> u64
-    ensures value { result ≡ returned (analysed_short answer.old) (analyse_says chart.now allowance (entry_buffers blocks must may marks classes)).number }
-    ensures classes_value { exit_buffers blocks must may marks classes ≡ left (analysed_short answer.old) (entry_buffers blocks must may marks classes) (analysed chart.now allowance (entry_buffers blocks must may marks classes)).buffers }
-    ensures answer_after { answer.new ≡ told (analysed_short answer.old) (analysed_numbers (analyse_says chart.now allowance (entry_buffers blocks must may marks classes))) answer.old }
+    ensures value { result ≡ returned (analysed_short answer.old) (analyse_says chart.now allowance (entry_buffers blocks.old must.old may.old marks.old classes.old)).number }
+    ensures classes_value { exit_buffers blocks.new must.new may.new marks.new classes.new ≡ left (analysed_short answer.old) (entry_buffers blocks.old must.old may.old marks.old classes.old) (analysed chart.now allowance (entry_buffers blocks.old must.old may.old marks.old classes.old)).buffers }
+    ensures answer_after { answer.new ≡ told (analysed_short answer.old) (analysed_numbers (analyse_says chart.now allowance (entry_buffers blocks.old must.old may.old marks.old classes.old))) answer.old }
 {
     boundary::veilbuzz_analyse(chart, allowance, blocks, must, may, marks, classes, answer)
 }
@@ -116,8 +116,8 @@ pub extern "C" fn veilbuzz_check(
     marks: &[u8],
     answer: &mut [u64],
 ) -> u64
-    ensures value { result ≡ returned (checked_short answer.old) (check_says chart.now (entry_table must may marks)).number }
-    ensures answer_after { answer.new ≡ told (checked_short answer.old) (checked_numbers (check_says chart.now (entry_table must may marks))) answer.old }
+    ensures value { result ≡ returned (checked_short answer.old) (check_says chart.now (entry_table must.now may.now marks.now)).number }
+    ensures answer_after { answer.new ≡ told (checked_short answer.old) (checked_numbers (check_says chart.now (entry_table must.now may.now marks.now))) answer.old }
 {
     boundary::veilbuzz_check(chart, must, may, marks, answer)
 }
@@ -136,8 +136,8 @@ pub extern "C" fn veilbuzz_total(
     ceilings: &[u16],
     answer: &mut [u64],
 ) -> u64
-    ensures value { result ≡ returned (totals_short answer.old) (total_says chart.now (entry_table must may marks) (entry_figures hit miss floors ceilings)).number }
-    ensures answer_after { answer.new ≡ told (totals_short answer.old) (totals_numbers (total_says chart.now (entry_table must may marks) (entry_figures hit miss floors ceilings))) answer.old }
+    ensures value { result ≡ returned (totals_short answer.old) (total_says chart.now (entry_table must.now may.now marks.now) (entry_figures hit miss floors ceilings)).number }
+    ensures answer_after { answer.new ≡ told (totals_short answer.old) (totals_numbers (total_says chart.now (entry_table must.now may.now marks.now) (entry_figures hit miss floors ceilings))) answer.old }
 {
     boundary::veilbuzz_total(chart, must, may, marks, hit, miss, floors, ceilings, answer)
 }
@@ -163,9 +163,9 @@ pub extern "C" fn veilbuzz_deadline(
     figures: &mut [f64],
     answer: &mut [u64],
 ) -> u64
-    ensures value { result ≡ returned (judged_short figures.old answer.old) (judge_says chart.now (entry_table must may marks) (entry_figures hit miss floors ceilings) (sheet_given period overhead) (deadline_given kind earliest latest)).number }
-    ensures figures_after { figures.new ≡ left (judged_short figures.old answer.old) figures.old (figures_told (judged chart.now (entry_table must may marks) (entry_figures hit miss floors ceilings) (sheet_given period overhead) (deadline_given kind earliest latest)) figures.old) }
-    ensures answer_after { answer.new ≡ told (judged_short figures.old answer.old) (judged_numbers (judge_says chart.now (entry_table must may marks) (entry_figures hit miss floors ceilings) (sheet_given period overhead) (deadline_given kind earliest latest))) answer.old }
+    ensures value { result ≡ returned (judged_short figures.old answer.old) (judge_says chart.now (entry_table must.now may.now marks.now) (entry_figures hit miss floors ceilings) (sheet_given period overhead) (deadline_given kind earliest latest)).number }
+    ensures figures_after { figures.new ≡ left (judged_short figures.old answer.old) figures.old (figures_told (judged chart.now (entry_table must.now may.now marks.now) (entry_figures hit miss floors ceilings) (sheet_given period overhead) (deadline_given kind earliest latest)) figures.old) }
+    ensures answer_after { answer.new ≡ told (judged_short figures.old answer.old) (judged_numbers (judge_says chart.now (entry_table must.now may.now marks.now) (entry_figures hit miss floors ceilings) (sheet_given period overhead) (deadline_given kind earliest latest))) answer.old }
 {
     boundary::veilbuzz_deadline(
         chart, must, may, marks, hit, miss, floors, ceilings, period, overhead, kind, earliest,
@@ -191,8 +191,8 @@ pub extern "C" fn veilbuzz_bound(
     denominator: u64,
     answer: &mut [u64],
 ) -> u64
-    ensures value { result ≡ returned (bound_short answer.old) (bound_says chart.now (entry_table must may marks) (asked (side_given side) hit miss (entry_facts coefficients limits) (entry_certificate multipliers potentials (denominator_given side denominator)))).number }
-    ensures answer_after { answer.new ≡ told (bound_short answer.old) (bound_numbers (bound_says chart.now (entry_table must may marks) (asked (side_given side) hit miss (entry_facts coefficients limits) (entry_certificate multipliers potentials (denominator_given side denominator))))) answer.old }
+    ensures value { result ≡ returned (bound_short answer.old) (bound_says chart.now (entry_table must.now may.now marks.now) (asked (side_given side) hit miss (entry_facts coefficients limits) (entry_certificate multipliers potentials (denominator_given side denominator)))).number }
+    ensures answer_after { answer.new ≡ told (bound_short answer.old) (bound_numbers (bound_says chart.now (entry_table must.now may.now marks.now) (asked (side_given side) hit miss (entry_facts coefficients limits) (entry_certificate multipliers potentials (denominator_given side denominator))))) answer.old }
 {
     boundary::veilbuzz_bound(
         chart,

@@ -1,18 +1,15 @@
 -- A chart that was read and is taken apart: its fields are those of the bytes, and packed again they are the bytes.
 use Prim.Native.Nat.{ℕ, zero, suc, ◌+◌, ◌*◌, ◌-◌, ◌/◌, ◌%◌, ◌^◌, ◌≤◌, ◌<◌}
 use mathlib.Core.Bool.{Bool, true, false, cond}
-use mathlib.Core.List.{List, [], ◌∷◌}
-use mathlib.Core.Logic.{⊎_elim}
+use mathlib.Core.List.{List}
 use mathlib.Core.Path.{◌≡◌, refl, sym, ap, ◌∙◌}
 use native.Mathlib.Numerals.{add-one}
 use native.Mathlib.Omega.{arith}
-use borrow.Author.Tests.{eq-eqb, ne_eqb, eqb-true, eqb-false}
+use borrow.Author.Tests.{eq-eqb, eqb-true, eqb-false}
 use lib.Dec.{eqb}
 use lib.ListN.{length, get_or}
 use lib.Seq.{ext_get_or}
-use Rattle.lists.specs.Lists.{list_of}
 use Rattle.lists.proofs.Listed.{length-list_of, get_or-list_of}
-use Rattle.lists.proofs.Orders.{below_or}
 use Rattle.chart.specs.declared.headers.HeaderFields.{HeaderFields}
 use Rattle.chart.specs.declared.records.RecordFields.{RecordFields}
 use Rattle.chart.specs.declared.records.Record.TheVariants.{Step, Reference}
@@ -23,7 +20,7 @@ use Rattle.chart.specs.Bytes.{AreBytes}
 use Rattle.chart.specs.Refusing.{RecordKeeps}
 use Rattle.chart.proofs.Allowed.{tells-record}
 use Rattle.chart.proofs.Sizes.{last_one, last-two, last-four, size-cases}
-use Rattle.writer.specs.Packing.{packed, chart_word, byte_widths, byte_of, chart_bytes}
+use Rattle.writer.specs.Packing.{chart_word, byte_widths, byte_of, chart_bytes}
 use Rattle.writer.specs.Taken.{code_of, fields_of}
 use Rattle.writer.proofs.Packed.{packed-below}
 use Rattle.writer.proofs.Readback.{eight, eight-fit, word-packed, byte-of-word, read-header, read-record}

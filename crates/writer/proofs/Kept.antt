@@ -1,9 +1,9 @@
 -- What is known where all that is given was packed and no record broke its rules: the bytes are the chart's, and read back as what was given.
-use Prim.Native.Nat.{ℕ, ◌+◌, ◌*◌, ◌^◌, ◌≤◌, ◌<◌}
+use Prim.Native.Nat.{ℕ, ◌≤◌, ◌<◌}
 use mathlib.Core.Bool.{true}
 use mathlib.Core.List.{List}
 use mathlib.Core.Logic.{⊎_elim}
-use mathlib.Core.Path.{◌≡◌, refl, sym, ap, subst, ◌∙◌}
+use mathlib.Core.Path.{◌≡◌, sym, ap, subst, ◌∙◌}
 use native.Mathlib.Omega.{arith}
 use lib.ListN.{length, get_or, replicate, get_or-replicate, length-replicate, get_or-eq_default}
 use Rattle.lists.specs.Choice.{NoneApplies}
@@ -14,7 +14,7 @@ use Rattle.chart.specs.declared.gathering.Gathered.{Gathered}
 use Rattle.chart.specs.declared.headers.Header.{Header}
 use Rattle.chart.specs.declared.records.RecordFields.{RecordFields}
 use Rattle.chart.specs.Geometry.{most_nodes, longest_chart}
-use Rattle.chart.specs.Layout.{chart_length, field, header_widths, record_widths}
+use Rattle.chart.specs.Layout.{chart_length, field, header_widths}
 use Rattle.chart.specs.Header.{header_cases, header_of}
 use Rattle.chart.specs.Record.{record_fields, record_keeps, record_of, Ends}
 use Rattle.chart.specs.Chart.{records_in}

@@ -1,14 +1,13 @@
 -- The bytes of a chart that was made of fields which fit: they are bytes, and read back as these fields, so that the reader says of them what its
 -- rules say of the fields.
-use Prim.Native.Nat.{ℕ, suc, ◌+◌, ◌*◌, ◌/◌, ◌%◌, ◌^◌, ◌≤◌, ◌<◌}
-use mathlib.Core.Bool.{Bool, true, false}
-use mathlib.Core.List.{List, [], ◌∷◌}
+use Prim.Native.Nat.{ℕ, suc, ◌/◌, ◌%◌, ◌^◌, ◌≤◌, ◌<◌}
+use mathlib.Core.List.{List}
 use mathlib.Core.Logic.{⊎_elim}
-use mathlib.Core.Path.{◌≡◌, refl, sym, ap, subst, ◌∙◌}
+use mathlib.Core.Path.{◌≡◌, sym, subst, ◌∙◌}
 use native.Mathlib.Nat.{mod-lt}
 use native.Mathlib.Omega.{arith}
 use borrow.Author.Tests.{le-ltb, eqb-true, eq-eqb}
-use lib.Dec.{ltb, eqb}
+use lib.Dec.{eqb}
 use lib.ListN.{length, get_or, drop, get_or-replicate, get_or-eq_default}
 use lib.Pow.{pow_pos}
 use Rattle.lists.specs.Choice.{first_case}
@@ -17,7 +16,7 @@ use Rattle.lists.proofs.Listed.{length-list_of, get_or-list_of}
 use Rattle.lists.proofs.Orders.{below_or}
 use Rattle.chart.specs.declared.headers.HeaderFields.{HeaderFields}
 use Rattle.chart.specs.declared.records.RecordFields.{RecordFields}
-use Rattle.chart.specs.Layout.{chart_length, widths_total, field, header_widths, record_widths}
+use Rattle.chart.specs.Layout.{chart_length, widths_total, header_widths, record_widths}
 use Rattle.chart.specs.Header.{fields_in, header_of}
 use Rattle.chart.specs.Record.{record_fields}
 use Rattle.chart.specs.Chart.{accepted, refused, chart_of, field_cases, records_in, read_chart}

@@ -1,11 +1,11 @@
 -- Laws of packing, for any widths: values that fit come back as the fields of their word, and a word is packed of its fields.
 use Prim.Native.Nat.{ℕ, zero, suc, ◌+◌, ◌*◌, ◌/◌, ◌%◌, ◌^◌, ◌<◌}
 use mathlib.Core.List.{List, [], ◌∷◌}
-use mathlib.Core.Path.{◌≡◌, refl, sym, ap, ◌∙◌}
+use mathlib.Core.Path.{◌≡◌, sym, ap, ◌∙◌}
 use native.Mathlib.Omega.{arith}
 use native.Mathlib.Nat.{mod-eq_of_lt, mod-one, mul_assoc, add_comm, add-mul-div_right, add-mul-mod_self_right}
 use lib.ListN.{length, get_or}
-use lib.Pow.{pow-add, pow_pos, high, low, mod-pow-add}
+use lib.Pow.{pow-add, pow_pos, high, mod-pow-add}
 use Rattle.lists.proofs.Joined.{row_in}
 use Rattle.chart.specs.Layout.{widths_total, field}
 use Rattle.writer.specs.Packing.{packed, Fit}

@@ -1,19 +1,19 @@
 -- What is packed reads back: bytes and words, words and fields, each way round.
-use Prim.Native.Nat.{ℕ, suc, ◌+◌, ◌*◌, ◌/◌, ◌%◌, ◌^◌, ◌≤◌, ◌<◌}
+use Prim.Native.Nat.{ℕ, ◌+◌, ◌*◌, ◌^◌, ◌<◌}
 use mathlib.Core.List.{List, [], ◌∷◌}
-use mathlib.Core.Path.{◌≡◌, refl, sym, ap, ◌∙◌}
+use mathlib.Core.Path.{◌≡◌, ap, ◌∙◌}
 use native.Mathlib.Omega.{arith}
-use lib.ListN.{length, get_or}
+use lib.ListN.{get_or}
 use Rattle.lists.specs.Lists.{list_of}
 use Rattle.lists.proofs.Listed.{get_or-list_of}
 use Rattle.chart.specs.declared.headers.HeaderFields.{HeaderFields}
 use Rattle.chart.specs.declared.records.RecordFields.{RecordFields}
-use Rattle.chart.specs.Layout.{number_at, word_at, field, header_widths, record_widths}
+use Rattle.chart.specs.Layout.{word_at, field, header_widths, record_widths}
 use Rattle.chart.specs.Header.{header_fields}
 use Rattle.chart.specs.Record.{record_fields}
 use Rattle.chart.specs.Bytes.{AreBytes}
 use Rattle.writer.specs.Packing.{packed, Fit, header_values, record_values, byte_widths}
-use Rattle.writer.proofs.Packed.{packed-below, field-packed, packed-fields}
+use Rattle.writer.proofs.Packed.{field-packed, packed-fields}
 
 -- ---- bytes and words
 

@@ -1,6 +1,6 @@
 -- What the six lent lists of a contract hold, put together, and what inner functions ask of them. Nothing here is a rule of the tool.
-use Rattle.std.specs.Prelude.{ℕ, ◌*◌, ◌≤◌, List, ◌≡◌, length}
-use Rattle.lists.specs.Slices.{Passed, Slice}
+use Rattle.std.specs.Prelude.{ℕ, ◌*◌, ◌≤◌, List, ◌≡◌}
+use Rattle.lists.specs.Slices.{Passed, Slice, MutSlice}
 use Rattle.lists.specs.Loops.{patch}
 use Rattle.chart.specs.declared.records.RecordFields.{RecordFields}
 use Rattle.chart.specs.Chart.{first_broken}
@@ -32,7 +32,7 @@ entry_lists kinds addresses sizes outs firsts seconds =
     lent_lists kinds.entry addresses.entry sizes.entry outs.entry firsts.entry seconds.entry
 
 -- The answer with the buffer at exit.
-abbrev pub exit_writing : Slice → Wrote → WriteLeft
+abbrev pub exit_writing : MutSlice → Wrote → WriteLeft
 exit_writing chart answer = record { answer = answer; chart = chart.exit.now }
 
 -- What packing the records of so many nodes answers, and the bytes after it where no record breaks its rules.

@@ -1,11 +1,10 @@
 use borrow.Author.Tests.{eq-eqb, ne_eqb}
-use Prim.Native.Nat.{ℕ, ◌<◌}
-use mathlib.Core.List.{List}
-use mathlib.Core.Path.{◌≡◌, sym, ap, subst, ◌∙◌}
-use lib.ListN.{get_or, set, length-set}
+use Prim.Native.Nat.{ℕ}
+use mathlib.Core.Path.{sym, ap, subst, ◌∙◌}
+use lib.ListN.{get_or, set}
 use Rattle.chart.specs.Record.{arrows_of, Leads}
 use Rattle.plan.specs.declared.PlannedNode.{PlannedNode}
-use Rattle.plan.specs.Listed.{nodes_in, blocks_in, node_in, Drawn}
+use Rattle.plan.specs.Listed.{nodes_in, blocks_in, node_in}
 use Rattle.plan.proofs.Holding.{node-leads, record-in}
 use Rattle.keeping.specs.Words.{Group, TouchableBy, word_after}
 use Rattle.keeping.specs.Columns.{group_of}

@@ -32,6 +32,6 @@ tell_others-requires-clause-reached_in c = let a = c.args in
     let telling = c.tell_chosen in
     let taking = c.left_after-left in
     let room = c.requires.room_for in (
-              all-reached a.columns.now a.plan.now c.requires.drawn_in _ _ round.0 (omega (arith, inside)) _ _ reached.ensures,
-              told-on a.columns.now a.plan.now c.requires.drawn_in _ _ round.0 _ _ a.stays.now _ nodes.result blocks.result a.wanted a.wanted taking.result a.first nodes.ensures blocks.ensures c.requires.plan_in_bounds.1 reached.ensures telling.ensures round.1 taking.ensures c.requires.first_bound.1,
-            )
+      all-reached a.columns.now a.plan.now c.requires.drawn_in _ _ round.0 (omega (arith, inside)) _ _ reached.ensures,
+      told-on a.columns.now a.plan.now c.requires.drawn_in _ _ round.0 _ _ a.stays.now _ nodes.result blocks.result a.wanted a.wanted taking.result a.first nodes.ensures blocks.ensures c.requires.plan_in_bounds.1 reached.ensures telling.ensures round.1 taking.ensures c.requires.first_bound.1,
+    )

@@ -8,4 +8,3 @@ returns-in_default-clause-draws c = let bytes = c.args.chart.now in
 
 pub draw_chart-requires-clause-accepted_as : goal.draw_chart-requires-clause-accepted_as
 draw_chart-requires-clause-accepted_as c = let read = c.read-read in reader-accepts c.args.chart.now read.result read.ensures.value _ _ c.in-Accepted.is
-

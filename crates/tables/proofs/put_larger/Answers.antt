@@ -1,5 +1,5 @@
 use borrow.Author.Rules.{rules}
-use Prim.Native.Nat.{◌-◌, max}
+use Prim.Native.Nat.{max}
 use mathlib.Core.Path.{refl}
 use Rattle.cache.specs.Ages.{age_of}
 use Rattle.layout.proofs.Meeting.{joined-turn}

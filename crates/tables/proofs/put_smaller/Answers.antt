@@ -1,5 +1,5 @@
 use borrow.Author.Rules.{rules}
-use Prim.Native.Nat.{◌-◌, min}
+use Prim.Native.Nat.{min}
 use mathlib.Core.Path.{refl}
 use Rattle.cache.specs.Ages.{age_of}
 use Rattle.layout.proofs.Meeting.{joined-turn}

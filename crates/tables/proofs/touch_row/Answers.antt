@@ -9,4 +9,3 @@ returns c = let a = c.args in
     touched-agrees a.blocks a.base a.must.now a.may.now _ _ a.columns.now a.m c.requires.m_lt_blocks.0 c.requires.m_lt_blocks.1
     (λ j h. touched.must j (omega (arith, h, wide)))
     (λ j h. touched.may j (omega (arith, h, wide)))
-

@@ -1,4 +1,3 @@
-use Prim.Native.Nat.{◌-◌}
 use native.Mathlib.Omega.{arith}
 use Rattle.lists.proofs.Firsts.{first-within}
 use Rattle.drawing.specs.Columns.{alike}

@@ -1,5 +1,5 @@
 use mathlib.Core.Path.{sym, subst}
-use Prim.Native.Nat.{◌+◌, ◌-◌, ◌*◌, ◌/◌}
+use Prim.Native.Nat.{◌+◌, ◌*◌, ◌/◌}
 use native.Mathlib.Omega.{arith}
 use Rattle.bits.specs.Bits.{FirstFrom}
 use Rattle.bits.proofs.Members.{rest-here, rest-none, rest-first, first-after}

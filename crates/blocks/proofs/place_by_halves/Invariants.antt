@@ -1,4 +1,3 @@
-use Prim.Native.Nat.{◌-◌}
 use lib.ListN.{take}
 use Rattle.blocks.specs.Blocks.{place_in}
 use Rattle.blocks.proofs.Halving.{Between, halvings}

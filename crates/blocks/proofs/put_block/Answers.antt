@@ -1,4 +1,3 @@
-use mathlib.Core.Logic.{⊎_elim}
 use native.Mathlib.Omega.{arith}
 use Rattle.blocks.proofs.Arrays.{listing-size, put-place, put-there, put-over, put-new}
 use Rattle.blocks.proofs.put_block.Goals as goal

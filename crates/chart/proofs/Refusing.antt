@@ -1,6 +1,6 @@
 -- The reader's tests tell when each of refusals 1 to 10 applies.
-use Prim.Native.Nat.{ℕ, zero, suc, ◌+◌, ◌*◌, ◌-◌, ◌/◌, ◌^◌, ◌≤◌, ◌<◌}
-use mathlib.Core.Bool.{Bool, true, false, cond, not, ◌&&◌}
+use Prim.Native.Nat.{ℕ, zero, suc, ◌+◌, ◌*◌, ◌/◌, ◌^◌, ◌≤◌, ◌<◌}
+use mathlib.Core.Bool.{Bool, true, false, cond, not}
 use mathlib.Core.List.{List, [], ◌∷◌, ◌++◌}
 use mathlib.Core.Logic.{◌⊎◌, inl, inr, ⊎_elim}
 use mathlib.Core.Path.{◌≡◌, refl, sym, ap, subst, ◌∙◌}
@@ -27,7 +27,7 @@ use Rattle.chart.specs.Record.{last_byte, record_keeps, record_of, touches_of, b
 use Rattle.chart.specs.Chart.{Chart, accepted, refused, records_in, broken_at, first_broken, overfull_at, first_overfull, field_cases, chart_in, chart_cases, read_chart}
 use Rattle.chart.specs.Bytes.{AreBytes, header_bytes, record_bytes}
 use Rattle.chart.specs.Refusing.{ShapeKeeps, RecordKeeps, FirstBroken, last_block_said, record_blocks, blocks_before, FirstOver, Rows, Applies}
-use Rattle.lists.proofs.Telling.{tells-ltb, tells-leb, tells-eqb, tells-not, tells-and, tells-same, tells-if, holds-true, fails-false, first-only, first-given, none_given, none_only}
+use Rattle.lists.proofs.Telling.{tells-ltb, tells-leb, tells-eqb, tells-not, tells-and, tells-same, holds-true, fails-false, first-only, first-given, none_given, none_only}
 use Rattle.blocks.proofs.Exact.{gathered-same, gathered-longer}
 use Rattle.chart.proofs.Allowed.{tells-record}
 use Rattle.chart.proofs.Sizes.{last_block}

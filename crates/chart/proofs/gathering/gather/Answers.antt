@@ -1,6 +1,6 @@
 use borrow.Author.Rules.{rules}
 use mathlib.Core.Path.{ap}
-use Prim.Native.Nat.{◌+◌, ◌-◌}
+use Prim.Native.Nat.{◌+◌}
 use Rattle.lists.proofs.Choice.{first-begins, first_passes}
 use Rattle.blocks.specs.Blocks.{gathered}
 use Rattle.blocks.specs.Listing.{LaidAll}
@@ -13,18 +13,18 @@ use Rattle.chart.proofs.gathering.gather.Goals as goal
 
 pub loop-n-init : goal.loop-n-init
 loop-n-init c = let t = blocks_at c.args.geometry (records_in c.args.chart.now) in (
+  search rules,
+  (
+    search rules,
+    (
       search rules,
       (
-        search rules,
-        (
-          search rules,
-          (
-            rw (gathered_none t),
-            (rw (gathered_none t) c.requires.blocks_value, first-begins c.args.nodes (overfull_at c.args.geometry (records_in c.args.chart.now))),
-          ),
-        ),
+        rw (gathered_none t),
+        (rw (gathered_none t) c.requires.blocks_value, first-begins c.args.nodes (overfull_at c.args.geometry (records_in c.args.chart.now))),
       ),
-    )
+    ),
+  ),
+)
 
 pub put_record-more-requires-clause-listing : goal.put_record-more-requires-clause-listing
 put_record-more-requires-clause-listing c = let a = c.args in

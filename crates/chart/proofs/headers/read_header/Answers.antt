@@ -29,7 +29,7 @@ unfolding header_read
 returns c =
     let bytes = c.args.chart.now in
     let e : c.header_of.result ≡ header_read c.args.chart.now =
-        rw (le-ltb _ _ c.if-chart-lt8.false)
-        (c.header_of.ensures ∙ ap (answer_in bytes) (c.header_fields-fields.ensures ∙ ap header_fields c.word_at.ensures))
+    rw (le-ltb _ _ c.if-chart-lt8.false)
+    (c.header_of.ensures ∙ ap (answer_in bytes) (c.header_fields-fields.ensures ∙ ap header_fields c.word_at.ensures))
     in
     record { value = e; result_value = ap header_says e }

@@ -14,13 +14,13 @@ read_records-requires c = read_length c.args.chart.now _ (sym c.read_header-head
 pub returns-in-Accepted : goal.returns-in-Accepted
 returns-in-Accepted c =
     let e : c.read_records.result ≡ reading c.args.chart.now =
-        rw (read-accepts c.args.chart.now _ (sym c.read_header-header.ensures.value ∙ c.in-Accepted.is)) c.read_records.ensures
+    rw (read-accepts c.args.chart.now _ (sym c.read_header-header.ensures.value ∙ c.in-Accepted.is)) c.read_records.ensures
     in
     record { value = e; verdict_value = ap reading_says e }
 
 pub returns-in-Refused : goal.returns-in-Refused
 returns-in-Refused c =
     let e : c.refuse.result ≡ reading c.args.chart.now =
-        rw (read-refuses c.args.chart.now _ (sym c.read_header-header.ensures.value ∙ c.in-Refused.is)) c.refuse.ensures
+    rw (read-refuses c.args.chart.now _ (sym c.read_header-header.ensures.value ∙ c.in-Refused.is)) c.refuse.ensures
     in
     record { value = e; verdict_value = ap reading_says e }

@@ -1,4 +1,5 @@
 pub mod Numbers
+pub mod Keeping
 pub mod Allowed
 pub mod Sizes
 pub mod Reader

@@ -29,7 +29,7 @@ use Rattle.chart.specs.Bytes.{AreBytes, header_bytes, record_bytes}
 use Rattle.chart.specs.Refusing.{ShapeKeeps, RecordKeeps, FirstBroken, last_block_said, record_blocks, blocks_before, FirstOver, Rows, Applies}
 use Rattle.lists.proofs.Telling.{tells-ltb, tells-leb, tells-eqb, tells-not, tells-and, tells-same, holds-true, fails-false, first-only, first-given, none_given, none_only}
 use Rattle.blocks.proofs.Exact.{gathered-same, gathered-longer}
-use Rattle.chart.proofs.Allowed.{tells-record}
+use Rattle.chart.proofs.Keeping.{tells-record}
 use Rattle.chart.proofs.Sizes.{last_block}
 use Rattle.chart.proofs.Bytes.{header-bytes, record-bytes}
 

@@ -20,7 +20,7 @@ use Rattle.chart.specs.Layout.{chart_length}
 use Rattle.chart.specs.Refusing.{ShapeKeeps}
 use Rattle.chart.specs.Chart.{Chart, Read, accepted, refused, read_chart, records_in, block_count}
 use Rattle.chart.proofs.Bytes.{record-bytes}
-use Rattle.chart.proofs.Allowed.{tells-record}
+use Rattle.chart.proofs.Keeping.{tells-record}
 use Rattle.chart.proofs.Refusing.{fields-tell, fields-numbered, fields-answered}
 use Rattle.fields.specs.declared.NodeRead.TheVariants.{Node, NoNode}
 use Rattle.fields.specs.declared.BlocksRead.TheVariants.{Blocks}

@@ -18,7 +18,7 @@ use Rattle.chart.specs.Header.{header_fields, start_of, start_code}
 use Rattle.chart.specs.Record.{last_byte, record_fields, record_keeps, record_of, node_of}
 use Rattle.chart.specs.Bytes.{AreBytes}
 use Rattle.chart.specs.Refusing.{RecordKeeps}
-use Rattle.chart.proofs.Allowed.{tells-record}
+use Rattle.chart.proofs.Keeping.{tells-record}
 use Rattle.chart.proofs.Sizes.{last_one, last-two, last-four, size-cases}
 use Rattle.writer.specs.Packing.{chart_word, byte_widths, byte_of, chart_bytes}
 use Rattle.writer.specs.Taken.{code_of, fields_of}

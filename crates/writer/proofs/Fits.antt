@@ -13,7 +13,8 @@ use Rattle.chart.specs.Layout.{header_widths, record_widths}
 use Rattle.chart.specs.Header.{geometry_of, header_cases}
 use Rattle.chart.specs.Record.{record_keeps}
 use Rattle.chart.specs.Refusing.{RecordKeeps}
-use Rattle.chart.proofs.Allowed.{between-both, line-bounds, sets-bound, ways-bounds, tells-record}
+use Rattle.chart.proofs.Allowed.{between-both, line-bounds, sets-bound, ways-bounds}
+use Rattle.chart.proofs.Keeping.{tells-record}
 use Rattle.chart.proofs.Sizes.{size-cases}
 use Rattle.writer.specs.declared.heading.Heading.{Heading}
 use Rattle.writer.specs.Packing.{Fit, header_values, record_values}

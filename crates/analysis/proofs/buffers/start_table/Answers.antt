@@ -1,0 +1,14 @@
+use Rattle.analysis.proofs.Starting.{start-before}
+use Rattle.analysis.proofs.buffers.start_table.Goals as goal
+
+pub returns : goal.returns
+returns c = let start = c.start-start in
+    let entry = c.entry_in-entry in
+    let blocks = c.blocks_in-blocks in
+    let empty = c.empty_in-empty in
+    start-before c.args.columns.now c.args.plan.now c.requires.drawn_in
+    (record { must = c.args.must.now; may = c.args.may.now; marks = c.args.marks.now })
+    blocks.result entry.result blocks.ensures entry.ensures empty.result empty.ensures start.result start.ensures
+    _ c.clear.ensures _ c.meet_row.ensures
+
+-- FIXME clear-requires has clauses in_bounds room_for

@@ -4,6 +4,7 @@ use mathlib.Core.Bool.{cond}
 use mathlib.Core.List.{List}
 use mathlib.Core.Path.{◌≡◌, refl}
 use lib.ListN.{get_or}
+use Rattle.chart.specs.Header.{header_in}
 use Rattle.chart.specs.Geometry.{most_nodes, most_blocks, all_passes}
 use Rattle.analysis.specs.declared.Analysed.{Analysed}
 use Rattle.analysis.specs.declared.Analysed.TheVariants.{Settled, Unsettled, Refused}
@@ -20,4 +21,5 @@ first-told nodes classes (Refused refusal) = refl
 pub refusal_told : (input : List ℕ) → get_or (report input) 0 0 ≡ cond (refuses input) 114 110
 unfolding report refuses
 refusal_told input =
-    first-told _ _ (analysed (taken input) all_passes (zero_buffers most_nodes most_blocks)).answer
+    let left = analysed (taken input) all_passes (zero_buffers most_nodes most_blocks) in
+    first-told (header_in (taken input)).nodes left.buffers.classes left.answer

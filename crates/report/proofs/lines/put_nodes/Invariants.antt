@@ -1,0 +1,13 @@
+use mathlib.Core.Path.{◌≡◌}
+use Prim.Native.Nat.{◌*◌, ◌-◌, ◌≤◌}
+use lib.ListN.{length}
+use Rattle.lists.specs.Lists.{list_of, joined}
+use Rattle.report.specs.Report.{node_line}
+use Rattle.report.specs.Written.{most_node, Put}
+use Rattle.report.proofs.lines.put_nodes.Given as goal
+
+abbrev pub invariant-loop-n : goal.invariant-loop-n
+invariant-loop-n l = (l.n ≤ l.nodes) × ((length l.text ≡ length l.initial.text) × Put (most_node * l.n) l.initial.text l.at (joined (list_of l.n (node_line l.classes))) l.text l.next)
+
+abbrev pub decreases-loop-n : goal.decreases-loop-n
+decreases-loop-n l = l.nodes - l.n

@@ -1,7 +1,7 @@
 use mathlib.Core.Bool.{not}
 use borrow.Author.Rules.{rules}
 use borrow.Author.Tests.{not-true, not-false}
-use Prim.Native.Nat.{ℕ, ◌-◌}
+use Prim.Native.Nat.{ℕ}
 use mathlib.Core.List.{List}
 use mathlib.Core.Path.{◌≡◌, refl, sym, ap, subst, ◌∙◌}
 use native.Mathlib.Omega.{arith}
@@ -43,8 +43,8 @@ returns-then-not-changed c = let columns : List ℕ = c.args.columns.now in
     let lent : Lent = record { must = c.args.must.now; may = c.args.may.now; marks = c.args.marks.now } in
     let l = c.loop-made in
     record {
-      answered = sym (counting-settles (plan_flow held) c.args.allowance l.made c.loop-made-test.true l.invariant.1.1.1.1.1.1.1 ((let the-flag : (pass (plan_flow held) (after_passes (plan_flow held) c.loop-made.made)).changed ≡ c.pass-changed.result = let l = c.loop-made in sym (ap (λ (r : LentRun). r.changed) (passes-turn held lent l.made _ _ l.invariant.1.1.1.1.1.0 l.invariant.1.1.1.1.1.1.0 ((record { lent = record { must = c.pass-changed.new.must; may = c.pass-changed.new.may; marks = c.pass-changed.new.marks }; changed = c.pass-changed.result; due = c.pass-changed.new.due; })) c.pass-changed.ensures)) in the-flag) ∙ not-true c.pass-changed.result (ap not c.if-not-changed.true)));
-      table = passes-table held lent l.made _ _ l.invariant.1.1.1.1.1.0 l.invariant.1.1.1.1.1.1.0 ((record { lent = record { must = c.pass-changed.new.must; may = c.pass-changed.new.may; marks = c.pass-changed.new.marks }; changed = c.pass-changed.result; due = c.pass-changed.new.due; })) c.pass-changed.ensures;
+      answered = sym (counting-settles (plan_flow held) c.args.allowance l.made c.loop-made-test.true l.invariant.1.1.1.1.1.1.1 ((let the-flag : (pass (plan_flow held) (after_passes (plan_flow held) c.loop-made.made)).changed ≡ c.pass-changed.result = let l = c.loop-made in sym (ap (λ (r : LentRun). r.changed) (passes-turn held lent l.made _ _ l.invariant.1.1.1.1.1.0 l.invariant.1.1.1.1.1.1.0 ((record { lent = record { must = c.pass-changed.new.must; may = c.pass-changed.new.may; marks = c.pass-changed.new.marks }; changed = c.pass-changed.result; due = c.pass-changed.new.due })) c.pass-changed.ensures)) in the-flag) ∙ not-true c.pass-changed.result (ap not c.if-not-changed.true)));
+      table = passes-table held lent l.made _ _ l.invariant.1.1.1.1.1.0 l.invariant.1.1.1.1.1.1.0 ((record { lent = record { must = c.pass-changed.new.must; may = c.pass-changed.new.may; marks = c.pass-changed.new.marks }; changed = c.pass-changed.result; due = c.pass-changed.new.due })) c.pass-changed.ensures;
     }
 
 pub loop-made-preserved : goal.loop-made-preserved
@@ -52,8 +52,7 @@ loop-made-preserved c = let columns : List ℕ = c.args.columns.now in
     let plan : List ℕ = c.args.plan.now in
     let held : Plan = plan_in columns plan in
     let lent : Lent = record { must = c.args.must.now; may = c.args.may.now; marks = c.args.marks.now } in
-    let l = c.loop-made in
-    (
+    let l = c.loop-made in (
       search rules,
       (
         search rules,
@@ -64,10 +63,10 @@ loop-made-preserved c = let columns : List ℕ = c.args.columns.now in
             (
               omega (arith, c.pass-changed.auto),
               (
-                passes-table held lent l.made _ _ l.invariant.1.1.1.1.1.0 l.invariant.1.1.1.1.1.1.0 ((record { lent = record { must = c.pass-changed.new.must; may = c.pass-changed.new.may; marks = c.pass-changed.new.marks }; changed = c.pass-changed.result; due = c.pass-changed.new.due; })) c.pass-changed.ensures,
+                passes-table held lent l.made _ _ l.invariant.1.1.1.1.1.0 l.invariant.1.1.1.1.1.1.0 ((record { lent = record { must = c.pass-changed.new.must; may = c.pass-changed.new.may; marks = c.pass-changed.new.marks }; changed = c.pass-changed.result; due = c.pass-changed.new.due })) c.pass-changed.ensures,
                 (
-                  passes-work held lent l.made _ _ l.invariant.1.1.1.1.1.0 l.invariant.1.1.1.1.1.1.0 ((record { lent = record { must = c.pass-changed.new.must; may = c.pass-changed.new.may; marks = c.pass-changed.new.marks }; changed = c.pass-changed.result; due = c.pass-changed.new.due; })) c.pass-changed.ensures,
-                  counting-goes (plan_flow held) c.args.allowance l.made c.loop-made-test.true l.invariant.1.1.1.1.1.1.1 ((let the-flag : (pass (plan_flow held) (after_passes (plan_flow held) c.loop-made.made)).changed ≡ c.pass-changed.result = let l = c.loop-made in sym (ap (λ (r : LentRun). r.changed) (passes-turn held lent l.made _ _ l.invariant.1.1.1.1.1.0 l.invariant.1.1.1.1.1.1.0 ((record { lent = record { must = c.pass-changed.new.must; may = c.pass-changed.new.may; marks = c.pass-changed.new.marks }; changed = c.pass-changed.result; due = c.pass-changed.new.due; })) c.pass-changed.ensures)) in the-flag) ∙ not-false c.pass-changed.result (ap not c.if-not-changed.false)),
+                  passes-work held lent l.made _ _ l.invariant.1.1.1.1.1.0 l.invariant.1.1.1.1.1.1.0 ((record { lent = record { must = c.pass-changed.new.must; may = c.pass-changed.new.may; marks = c.pass-changed.new.marks }; changed = c.pass-changed.result; due = c.pass-changed.new.due })) c.pass-changed.ensures,
+                  counting-goes (plan_flow held) c.args.allowance l.made c.loop-made-test.true l.invariant.1.1.1.1.1.1.1 ((let the-flag : (pass (plan_flow held) (after_passes (plan_flow held) c.loop-made.made)).changed ≡ c.pass-changed.result = let l = c.loop-made in sym (ap (λ (r : LentRun). r.changed) (passes-turn held lent l.made _ _ l.invariant.1.1.1.1.1.0 l.invariant.1.1.1.1.1.1.0 ((record { lent = record { must = c.pass-changed.new.must; may = c.pass-changed.new.may; marks = c.pass-changed.new.marks }; changed = c.pass-changed.result; due = c.pass-changed.new.due })) c.pass-changed.ensures)) in the-flag) ∙ not-false c.pass-changed.result (ap not c.if-not-changed.false)),
                 ),
               ),
             ),

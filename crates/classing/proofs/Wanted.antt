@@ -15,7 +15,7 @@ use Rattle.lists.proofs.Loops.{patch-in0, patch-written}
 use Rattle.chart.specs.Geometry.{most_touches}
 use Rattle.cache.specs.Ages.{Ages}
 use Rattle.flow.specs.Flow.{Cell, cell_at}
-use Rattle.ages.specs.Plan.{ColumnTouch, Plan, touches_in}
+use Rattle.ages.specs.Plan.{ColumnTouch, Plan}
 use Rattle.plan.specs.declared.PlannedRecord.{PlannedRecord}
 use Rattle.plan.specs.declared.PlannedRecord.TheVariants.{Step, Reference}
 use Rattle.plan.specs.Listed.{nodes_in, node_in, touches_by, plan_in}

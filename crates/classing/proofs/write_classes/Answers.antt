@@ -25,4 +25,3 @@ returns c = let a = c.args in
     let all = subst (AllWanted held table) (sym wanted.ensures) (gathered a.columns.now a.plan.now table a.classes.now _ c.requires.plan_in_bounds c.put_classes.ensures) in
     c.refine_all.ensures
     ∙ all-refined held table wanted.result all _ c.write_stays.ensures a.classes.now _ (most_touches * c.nodes_in.result) (ap (λ (n : ℕ). most_touches * n) c.nodes_in.ensures) c.requires.plan_in_bounds c.put_classes.ensures
-

@@ -1,5 +1,4 @@
 use borrow.Author.Rules.{rules}
-use Prim.Native.Nat.{◌-◌}
 use native.Mathlib.Omega.{arith}
 use Rattle.classing.proofs.Wanted.{none_yet, wanted-turn}
 use Rattle.classing.proofs.wanting.wanted_columns.Goals as goal

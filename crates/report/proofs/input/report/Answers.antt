@@ -17,4 +17,3 @@ slice_bounds-report_bytes-end c = simp length-take (omega arith)
 pub returns : goal.returns
 unfolding report refuses
 returns c = c.report_bytes-2.ensures
-

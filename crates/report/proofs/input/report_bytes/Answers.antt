@@ -12,5 +12,5 @@ use Rattle.report.proofs.input.report_bytes.Goals as goal
 pub returns-clause-value : goal.returns-clause-value
 returns-clause-value c = let bytes : List ℕ = c.args.chart.now in
     let left : ◌≡◌ {A = Left} _ (analysed bytes all_passes (zero_buffers most_nodes most_blocks)) = c.analyse-answer.ensures.result_value in c.written.ensures.value
-          ∙ (λ i. text_of (report_of (c.nodes_of-nodes.ensures.1 i) (left i).buffers.classes (left i).answer) (refused_by (left i).answer))
-          ∙ (λ i. text_of (nodes-counted bytes all_passes (zero_buffers most_nodes most_blocks) i) (refused_by (analysed bytes all_passes (zero_buffers most_nodes most_blocks)).answer))
+    ∙ (λ i. text_of (report_of (c.nodes_of-nodes.ensures.1 i) (left i).buffers.classes (left i).answer) (refused_by (left i).answer))
+    ∙ (λ i. text_of (nodes-counted bytes all_passes (zero_buffers most_nodes most_blocks) i) (refused_by (analysed bytes all_passes (zero_buffers most_nodes most_blocks)).answer))

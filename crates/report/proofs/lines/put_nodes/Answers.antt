@@ -9,4 +9,3 @@ pub loop-n-preserved : goal.loop-n-preserved
 loop-n-preserved c = let l = c.loop-n in
     let a = c.args in
     (search rules, (search rules, lines-turn most_node l.n (node_line a.classes.now) l.invariant.1.1 c.put_node-next.ensures))
-

@@ -10,4 +10,3 @@ returns-in-Unsettled-clause-value c = let a = c.args in report-put a.nodes a.cla
 
 pub returns-in-Refused-clause-value : goal.returns-in-Refused-clause-value
 returns-in-Refused-clause-value c = let a = c.args in report-put a.nodes a.classes.now a.answer _ _ c.in-Refused.is c.refused_by-refused.ensures c.put_refused-size-in-Refused.ensures (omega arith)
-

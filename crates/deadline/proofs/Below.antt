@@ -1,7 +1,7 @@
 -- Totals of costs, floors and ceilings of 16 bits are below 2^53: there are no more nodes than a chart may have, of two touches each, and each
 -- touch counts at most 65,535 times 65,535; and for each block, of which there are no more than a chart may have, the high total has at most 65,535
 -- more.
-use Prim.Native.Nat.{ℕ, suc, ◌-◌, ◌*◌, ◌^◌, ◌≤◌, ◌<◌}
+use Prim.Native.Nat.{ℕ, suc, ◌*◌, ◌^◌, ◌≤◌, ◌<◌}
 use mathlib.Core.Bool.{Bool, true, false, cond}
 use mathlib.Core.List.{List, [], ◌∷◌}
 use mathlib.Core.Path.{◌≡◌, refl, sym, ap, subst, ◌∙◌}

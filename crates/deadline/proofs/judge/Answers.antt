@@ -1,5 +1,4 @@
 use mathlib.Core.Path.{sym, ap, ◌∙◌}
-use Rattle.refusals.proofs.Saying.{says-too}
 use Rattle.deadline.specs.Deadline.{judged_totals, judged, judged_say}
 use Rattle.deadline.specs.Widths.{SixteenBits}
 use Rattle.deadline.proofs.Below.{totals_below}

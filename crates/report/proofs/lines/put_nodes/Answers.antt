@@ -1,5 +1,4 @@
 use borrow.Author.Rules.{rules}
-use Prim.Native.Nat.{◌-◌}
 use Rattle.report.specs.Report.{node_line}
 use Rattle.report.specs.Written.{most_node}
 use Rattle.report.proofs.Parts.{lines-turn}

@@ -24,7 +24,6 @@ use Rattle.analysis.specs.declared.Analysed.TheVariants.{Settled}
 use Rattle.classes.specs.Class.{node_class, table_classes, CalledRight}
 use Rattle.classes.proofs.Places.{classes_long, first_listed, second_listed}
 use Rattle.analysis.specs.Analysis.{Buffers, table_in, analysed}
-use Rattle.checker.specs.Checker.{marked}
 use Rattle.totals.specs.declared.Totals.TheVariants.{Between, Refused}
 use Rattle.totals.specs.declared.Totals.{Totals}
 use Rattle.totals.specs.Totals.{totals, totals_say}

@@ -10,5 +10,3 @@ returns c = let start = c.start-start in
     (record { must = c.args.must.now; may = c.args.may.now; marks = c.args.marks.now })
     blocks.result entry.result blocks.ensures entry.ensures empty.result empty.ensures start.result start.ensures
     _ c.clear.ensures _ c.meet_row.ensures
-
--- FIXME clear-requires has clauses in_bounds room_for

@@ -26,5 +26,3 @@ returns-in-Spent c = let columns : List ℕ = c.args.columns.now in
     let nodes = c.nodes_in-nodes in
     spent-left held lent _ c.start_table.ensures c.args.allowance c.args.classes.now settle.result _ settle.ensures
     blocks.result blocks.ensures c.in-Spent.is c.requires.plan_in_bounds _ c.clear.ensures nodes.result nodes.ensures _ c.fill.ensures
-
--- FIXME start_table-requires has clauses drawn_in room_for

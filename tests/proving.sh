@@ -13,7 +13,8 @@ crates_of() { # NAME
             for (i = 1; i <= count; i++) visit(names[i])
         }
         { sub(/#.*/, "") }
-        split($0, half, ":") == 2 { below[half[1]] = half[2] }
+        # what may stand before the colon beside the name, as `staticlib`, is of no matter here
+        split($0, half, ":") == 2 { split(half[1], words, " "); below[words[1]] = half[2] }
         END { visit(wanted) }' "$root/crates.txt"
 }
 
@@ -27,13 +28,15 @@ there() { # TOOL WHO WHAT-FOR
     command -v "$1" || printf '%s: there is no %s on PATH, and %s; %s\n' "$2" "$1" "$3" "$mend" >&2
 }
 
-# Prints a sum of each file of the crates that one is made of, of crates.txt and of what is named beside; must-fail edits are no part of it.
+# Prints a sum of each file of the crates that one is made of, of crates.txt and of what is named beside; must-fail edits and what rt makes are no
+# part of it.
 sums_of() ( # NAME FILES
     cd "$root"
     name=$1
     shift
     # shellcheck disable=SC2046
-    find $(crates_of "$name" | sed 's,^,crates/,') crates.txt "$@" -name must-fail -prune -o -type f -exec sha256sum {} + | sort
+    find $(crates_of "$name" | sed 's,^,crates/,') crates.txt "$@" \( -name must-fail -o -regex 'crates/[^/]*/out' \) -prune -o \
+        -type f -exec sha256sum {} + | sort
 )
 
 # Waits until no other has the turn that goes by this file, and has it until the shell that calls this ends. Fails where it cannot be had.
@@ -46,24 +49,29 @@ turn() { # FILE
     }
 }
 
-# Keeps what rt says in the log, and says how far it is. Of the crate that it makes an archive of, rt says that it has it; of a crate that it
-# comes by again, that it is unchanged.
+# Keeps what rt says in the log, and says how far it is: after what it says of a crate comes whether that is proved. Of a crate that is unchanged
+# it says nothing.
 progress() { # WHAT NAME LOG
     total=$(crates_of "$2" | wc -l)
     count=0
     counted=' '
+    name=''
     printf 'proving %s, %d crates\n' "$1" "$total"
     while IFS= read -r line || [ -n "$line" ]; do
         printf '%s\n' "$line" >>"$3"
         case $line in
-        "rt: "*" proved ("*) name=${line#rt: } name=${name%% *} ;;
-        "rt: target/staticlib/lib$2.a has "*) name=$2 ;;
+        'crate '*': modules loaded='*)
+            name=${line#crate }
+            name=${name%%:*}
+            continue
+            ;;
+        'logic=proved '*) ;;
         *) continue ;;
         esac
         case $counted in *" $name "*) continue ;; esac
         counted="$counted$name "
         count=$((count + 1))
-        case $line in *"(unchanged "*) ;; *) printf 'proved %s (%d of %d)\n' "$name" "$count" "$total" ;; esac
+        printf 'proved %s (%d of %d)\n' "$name" "$count" "$total"
     done
 }
 
@@ -72,6 +80,13 @@ prove() { # WHAT NAME LOG COMMAND
     : >"$3"
     ended=$({ { (shift 3 && "$@") </dev/null 2>&1 && echo well >&3; } | progress "$1" "$2" "$3" >&2; } 3>&1)
     [ "$ended" = well ]
+}
+
+# Has a program proved, built and run, on no input. Here nobody asks what it writes, nor how it tells its ending (ended).
+run_proved() { # NAME
+    # rt makes a program anew only where its stamp is not there, and does not look at its object
+    rm -f "crates/$1/out/$1.stamp"
+    (cd "crates/$1" && rt run </dev/null 9>/dev/null)
 }
 
 # What files were made from, as it was when `sources` was set, and the files.

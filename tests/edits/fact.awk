@@ -1,15 +1,16 @@
-# Reads what the prover says of a crate with a must-fail edit, and prints what fails first: a law by its name, and where it is the proof of
-# a function, that function by its path. Where the first error says of no fact that it fails, or an error says that the proofs are made for
-# other code, it prints '-' and that error instead.
+# Reads what 'rt ci' says, and prints for each must-fail edit that it tried what fails first: a law by its name, and where it is the proof of a
+# function, or the kit's own proof of one, that function by its path. Where what is said is of no fact that fails, it prints '-' and that instead.
 #
-#     awk -v crate=CRATE -v folder=FOLDER -f fact.awk LOG      FOLDER: where the edited crate lies, which the log's places begin with
+#     awk -v crates=CRATES -f fact.awk LOG      CRATES: the folder of the crates, which the log's places are in
 
-# Takes an error apart: the file, the law, and the prover's words.
+# Takes an error apart: the file, the line, the law, and the prover's words.
 function take(error) {
-    file = error
-    sub(/:.*/, "", file)
+    split(error, parts, ":")
+    file = parts[1]
+    line = parts[2]
     words = error
-    sub(/^[^ ]* error: /, "", words)
+    sub(/^[^ ]* /, "", words)
+    sub(/^error: /, "", words)
     law = ""
     if (match(words, /^`[^`]+`: /)) {
         law = substr(words, 2, RLENGTH - 4)
@@ -17,21 +18,10 @@ function take(error) {
     }
 }
 
-# Whether the error is of no law, or of what a function's proof is made of: the law that ends it only puts together what stands before.
+# Whether the words are of a name, of text that is no term, or of a proof that is made for other code, and of no fact.
 function misfits() {
-    return file !~ /^proofs\// || law == "" ||
-        (file ~ /\/Proof\.antt$/ && law ~ /-spec$/ && words !~ / was not admitted /) ||
-        words ~ / (has no `[^`]*` that can be named from here|is not in scope|has no field) ?/
-}
-
-# An equation or an inequality that does not hold, in the prover's words, or a statement that is made of such. What it says of names, of text
-# that is no term, of terms of another kind and of holes is not among them.
-function fails() {
-    return words ~ /^`omega`: the (goal|part `[^`]*` of the goal) does not follow from what it read/ ||
-        words ~ /^`search`: no proof of / ||
-        words ~ /^give a proof of that as the last argument, `rw L t` / ||
-        words ~ /^(as printed|computed as far as they go), the two (types|values) (are|differ only|first differ) / ||
-        (words ~ /^expected type `[^`]*(≡|≤|<|⊥|Below|Hold |\.Put |SettledIn )/ && !plain())
+    return words ~ /(has no (field|`)|is not in scope|is no name|was not admitted|operand is missing|expected the end|cannot continue)/ ||
+        words ~ /(no clause covers|write the clause|takes [0-9]+ arguments|is a hole)/ || plain()
 }
 
 # Whether a type that is expected or found is one of data, so that the term is of the wrong kind and no fact is in question.
@@ -39,42 +29,57 @@ function plain() {
     return words ~ /(expected|has) type `(mathlib\.Core\.(Bool|List)\.|Prim\.Native\.Nat\.|ℕ|Bool|List|Type|→|×|[0-9]|[ ()])+`/
 }
 
-# The function that a file proves, by its path.
-function proved_by(file) {
-    sub(/^proofs\//, "", file)
-    sub(/\/Proof\.antt$/, "", file)
+# A file without its folder and its end, as a path.
+function path(file) {
+    sub(/^[a-z]+\//, "", file)
+    sub(/(\/(Proof|Answers|Invariants))?\.(antt|rt)$/, "", file)
     gsub(/\//, "::", file)
-    return crate "::" file
+    return file
 }
 
-index($0, folder "/") == 1 && / error: / {
-    error = substr($0, length(folder) + 2)
-    if (!first)
-        first = error
-    take(error)
-    if (!misfit && misfits())
-        misfit = error
+# The function that a line of code is in, by its path: the last that begins up to there, with the type that it is of.
+function holding(crate, file, line,    text, count, type, found, module) {
+    while ((getline text < (crates "/" crate "/" file)) > 0 && ++count <= line) {
+        if (text ~ /^}/) type = ""
+        if (text ~ /^impl/) {
+            type = text
+            sub(/ *({|where).*$/, "", type)
+            sub(/^.* /, "", type)
+            sub(/<.*/, "", type)
+            type = type "::"
+        }
+        if (text ~ /^ *(pub |pub\([a-z]+\) )?(const )?(unsafe )?(extern "C" )?fn /) {
+            found = text
+            sub(/^.*fn /, "", found)
+            sub(/[^A-Za-z0-9_].*$/, "", found)
+        }
+    }
+    close(crates "/" crate "/" file)
+    module = path(file)
+    return crate "::" (module ~ /^(lib|main)$/ ? "" : module "::") type found
 }
 
-# Of a function that the kit proves by itself there is no error, but a note, and the function's own line after it.
-/^note: .*: it is not proved that / {
-    noted = 1
-}
-
-noted && !alone && /^fn [^ ]+: no proof: / {
-    alone = $2
-    sub(/:$/, "", alone)
-}
-
-END {
-    take(first)
-    if (misfit)
-        print "- " misfit
-    # what a law rests on was refused before it: its error says nothing of its own
-    else if (alone && (!first || words ~ / was not admitted /))
-        print alone
-    else if (!fails())
-        print "- " first
+sub(/^rt: must-fail /, "") {
+    edit = $1
+    sub(/\.edit:$/, "", edit)
+    crate = edit
+    sub(/\/.*/, "", crate)
+    told = substr($0, length($1) + 2)
+    if (!sub(/^refused, as it must be: /, "", told)) {
+        print edit, "- " told
+        next
+    }
+    is_note = sub(/^note: /, "", told)
+    sub(/^\.\//, "", told)
+    take(told)
+    if (misfits())
+        print edit, "- " told
+    else if (file ~ /^proofs\/.*\/(Proof|Answers|Invariants)\.antt$/)
+        print edit, crate "::" path(file)
+    else if (file ~ /^(proofs|specs)\// && law != "")
+        print edit, law
+    else if (is_note && file ~ /^src\// && words ~ /^it is not proved that /)
+        print edit, holding(crate, file, line)
     else
-        print (file ~ /\/Proof\.antt$/ ? proved_by(file) : law)
+        print edit, "- " told
 }

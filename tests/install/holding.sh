@@ -1,11 +1,13 @@
 # What the tests of an installation share: tests/installed and tests/install/putting read this in, in the repository's folder. `work` is an empty
-# folder of their own, `tools` one that has readlink alone, which is all that the installed program needs beside a shell.
+# folder of their own among the temporary files, since rt allows no links in the repository's; `tools` is one that has readlink alone, which is all
+# that the installed program needs beside a shell.
 # shellcheck shell=sh disable=SC2034
 
-work=$PWD/tests/target/${0##*/}
+work=$(mktemp -d)
+trap 'rm -rf "$work"' EXIT
+chmod 755 "$work"
 tools=$work/tools
-rm -rf "$work"
-mkdir -p "$tools"
+mkdir "$tools"
 ln -s "$(command -v readlink)" "$tools/readlink"
 held=0
 

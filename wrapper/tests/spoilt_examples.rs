@@ -1,7 +1,6 @@
 //! Each example with a chart that is refused: it says so in words on standard error, and ends with status 1.
 
-use std::fs::{create_dir_all, read_dir, read_to_string, remove_dir_all, write};
-use std::os::unix::fs::symlink;
+use std::fs::{copy, create_dir_all, read_dir, read_to_string, remove_dir_all, write};
 use std::path::{Path, PathBuf};
 use std::process::Command;
 use veilbuzz::Refusal;
@@ -22,7 +21,11 @@ fn package() -> PathBuf {
     let folder = Path::new(env!("CARGO_TARGET_TMPDIR")).join("spoilt");
     let _ = remove_dir_all(&folder);
     create_dir_all(folder.join("src/bin")).expect("a folder can be made");
-    symlink(Path::new(WRAPPER).join("../charts"), folder.join("charts")).expect("a link can be made");
+    create_dir_all(folder.join("charts")).expect("a folder can be made");
+    for chart in read_dir(Path::new(WRAPPER).join("../charts")).expect("the folder can be listed") {
+        let chart = chart.expect("the folder can be listed");
+        copy(chart.path(), folder.join("charts").join(chart.file_name())).expect("a file can be copied");
+    }
     let manifest = format!(
         "[package]\nname = \"spoilt\"\nedition = \"2021\"\n[dependencies]\nveilbuzz = {{ path = {WRAPPER:?} }}\n[workspace]\n"
     );

@@ -1,13 +1,13 @@
 //! A made-up repository with the scripts ./report and ./desk, to try them where nothing is proved: its rt says what the real one says,
 //! and keeps count.
 
-use crate::program::file;
+use crate::program::{file, PROGRAM};
 use std::env;
 use std::fs::{self, create_dir_all, Permissions};
 use std::io::Read;
 use std::os::unix::fs::{symlink, PermissionsExt};
 use std::path::{Path, PathBuf};
-use std::process::{Child, Command, Output, Stdio};
+use std::process::{self, Child, Command, Output, Stdio};
 use std::thread::sleep;
 use std::time::{Duration, Instant};
 
@@ -39,58 +39,64 @@ const TOOLS: [&str; 23] = [
 ];
 
 /// The scripts, and what they run, as it is.
-const SCRIPTS: [&str; 13] = [
+const SCRIPTS: [&str; 9] = [
     "desk",
     "report",
     "tests/archive",
     "tests/asking.sh",
     "tests/desk",
     "tests/ended",
-    "tests/native/module",
-    "tests/native/object",
     "tests/native/static",
-    "tests/native/toolchain",
     "tests/program",
     "tests/proving.sh",
-    "tests/x86-64/run",
 ];
 
-/// Three crates that the program stands on, three that the functions for C do.
-const CRATES: &str =
-    "# from the ground floor up\nlists:\nreport: lists\nveilbuzz: report io libc\nother: lists\nboundary: other\n";
+/// Three crates that the program stands on, four that the functions for C do.
+const CRATES: &str = "# from the ground floor up\nlists:\nreport: lists\nveilbuzz: report\nother: lists\nboundary: lists other\n\
+    boundary_c staticlib: lists other boundary\n";
 
-/// What stands for rt. It fails where there is a file `broken`, and goes on only once there is no file `held`, or after ten seconds.
+/// What stands for rt, which is run in a crate's folder and says nothing of a library that has not changed, as here `lists`. It fails where there
+/// is a file `broken`, and goes on only once there is no file `held`, or after ten seconds.
 const RT: &str = r#"#!/bin/sh
 kit=$(dirname "$0")/..
 [ "$*" != version ] || exec cat "$kit/version"
-echo "rt $*" >>"$kit/../calls"
+crate=${PWD##*/}
+echo "rt $* $crate" >>"$kit/../calls"
 tries=0
-while [ -e held ] && [ "$tries" -lt 500 ]; do
+while [ -e ../../held ] && [ "$tries" -lt 500 ]; do
     tries=$((tries + 1))
     sleep 0.02
 done
-below() {
-    echo 'rt: lists proved (unchanged since it was last proved)'
-    [ ! -e broken ] || { echo "rt: $1 NOT PROVED (exit 1, 3 s)"; exit 1; }
-    echo "rt: $1 proved (3 s)"
+proved() {
+    printf '%s\n' "fn $1::first: proved" 'statements std: modules loaded=21 checked=0' 'library lists: modules loaded=2 checked=0'
+    printf '%s\n' "crate $1: modules loaded=24 checked=40" 'axioms std: none reached of the 2 declared' 'logic=proved functions=1 sum=0'
 }
-case "$1 $2" in
-'check veilbuzz')
-    below report
-    echo 'rt: veilbuzz proved (5 s)'
-    mkdir -p target/bin && cp "$kit/veilbuzz" target/bin/veilbuzz
-    echo "rt: veilbuzz ran, and wrote what its file 'stdout' has (0 s)"
+below() {
+    [ ! -e ../../broken ] || {
+        printf '%s\n' "fn $1::first: not proved" "crate $1: modules loaded=24 checked=40" 'logic=not-proved'
+        echo "rt: the library $1 did not build, so nothing above it was checked"
+        exit 1
+    }
+    proved "$1"
+}
+case "$* $crate" in
+'run veilbuzz')
+    below report >&2
+    proved veilbuzz >&2
+    mkdir -p out && cp "$kit/veilbuzz" out/veilbuzz
+    echo 'rt: running out/veilbuzz; to give it other input, run that file yourself' >&2
+    exec out/veilbuzz
     ;;
-'check '*)
+'lib boundary_c')
     below other
+    proved boundary
+    proved boundary_c
+    mkdir -p out && echo archive >out/libboundary_c.a
+    echo out/libboundary_c.a
     ;;
-'staticlib boundary')
-    echo 'rt: other proved (unchanged since it was last proved)' >&2
-    mkdir -p target/staticlib && echo archive >target/staticlib/libboundary.a && echo module >target/boundary.bc
-    clang=${RATTLE_HOME:-$kit}/on/$(uname -m)/toolchain/bin/clang
-    [ ! -x "$clang" ] || "$clang" target/boundary.bc || exit
-    echo 'logic=proved functions=1'
-    echo 'rt: target/staticlib/libboundary.a has the functions of boundary that are marked #[no_mangle] pub extern "C"'
+*)
+    echo 'rt: this crate is a program: use rt run' >&2
+    exit 2
     ;;
 esac
 "#;
@@ -107,10 +113,12 @@ pub struct Repository {
 }
 
 impl Repository {
-    /// One that is not built yet, in an empty folder of the tests' own, to try one of the scripts.
-    pub fn new(folder: &Path, script: &'static str) -> Self {
-        let _ = fs::remove_dir_all(folder);
-        create_dir_all(folder).expect("a folder can be made");
+    /// One that is not built yet, to try one of the scripts. It has links and sources, for which rt allows no place in a repository of its own: so
+    /// it is in a folder among the temporary files, and is removed with it.
+    pub fn new(name: &str, script: &'static str) -> Self {
+        let folder = env::temp_dir().join(format!("veilbuzz-{script}-{name}-{}", process::id()));
+        let _ = fs::remove_dir_all(&folder);
+        create_dir_all(&folder).expect("a folder can be made");
         // as the scripts tell it
         let root = folder.canonicalize().expect("the folder is there");
         let made = Repository { root, script };
@@ -125,6 +133,7 @@ impl Repository {
             "veilbuzz/src/main.rt",
             "other/src/lib.rt",
             "boundary/src/lib.rt",
+            "boundary_c/src/lib.rt",
         ] {
             made.write(&format!("crates/{source}"), source);
         }
@@ -134,15 +143,9 @@ impl Repository {
         made
     }
 
-    /// With the real kit's loader and the built program, which rt then hands out.
+    /// With the built program, which rt then hands out.
     pub fn with_program(self) -> Self {
-        let real = Command::new(file("tests/native/toolchain"))
-            .output()
-            .expect("the script runs");
-        let real = PathBuf::from(String::from_utf8(real.stdout).expect("a path in UTF-8").trim_end());
-        let on = real.ancestors().nth(2).expect("it is on/MACHINE/toolchain of the kit");
-        symlink(on, self.path("kit/on")).expect("a link can be made");
-        symlink(file("target/bin/veilbuzz"), self.path("kit/veilbuzz")).expect("a link can be made");
+        symlink(file(PROGRAM), self.path("kit/veilbuzz")).expect("a link can be made");
         self
     }
 
@@ -221,8 +224,7 @@ impl Repository {
         let mut command = Command::new(program);
         command
             .current_dir(&self.root)
-            .env("PATH", env::join_paths(folders).expect("no folder has a colon"))
-            .env_remove("RATTLE_HOME");
+            .env("PATH", env::join_paths(folders).expect("no folder has a colon"));
         command
     }
 
@@ -236,6 +238,12 @@ impl Repository {
             let found = found.unwrap_or_else(|| panic!("there is no {tool} on PATH"));
             symlink(found, self.path("tools").join(tool)).expect("a link can be made");
         }
+    }
+}
+
+impl Drop for Repository {
+    fn drop(&mut self) {
+        let _ = fs::remove_dir_all(&self.root);
     }
 }
 

@@ -13,14 +13,17 @@ pub fn file(name: &str) -> PathBuf {
     Path::new(env!("CARGO_MANIFEST_DIR")).join("../..").join(name)
 }
 
+/// The program as `rt ci` and `rt run` build it.
+pub const PROGRAM: &str = "crates/veilbuzz/out/veilbuzz";
+
 /// What starts the program under test: tests/program, unless VEILBUZZ_PROGRAM names something else, as the second program's binary.
 pub fn path() -> OsString {
     if let Some(other) = env::var_os("VEILBUZZ_PROGRAM") {
         return other;
     }
     assert!(
-        file("target/bin/veilbuzz").exists(),
-        "the program is not built: run 'rt check veilbuzz' (or ./tests/run, which does) and try again"
+        file(PROGRAM).exists(),
+        "the program is not built: run 'rt ci' (or ./tests/run, which does) and try again"
     );
     file("tests/program").into()
 }

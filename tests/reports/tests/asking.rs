@@ -2,21 +2,19 @@
 
 use reports::folder;
 use reports::made_up::{first_line, output, said, start, Repository, WAITING};
-use reports::program::{file, CUT};
+use reports::program::{file, CUT, PROGRAM};
 use std::fs::{self, File, Permissions};
 use std::os::unix::fs::PermissionsExt;
-use std::path::Path;
 use std::process::{Command, Output, Stdio};
 
 /// The status where there is no report.
 const NONE: i32 = 3;
 
 /// What is said while the program is proved and built.
-const PROVED: &str = "proving the program, 3 crates\nproved report (2 of 3)\nproved veilbuzz (3 of 3)\n";
+const PROVED: &str = "proving the program, 3 crates\nproved report (1 of 3)\nproved veilbuzz (2 of 3)\n";
 
 fn made_up(name: &str) -> Repository {
-    let folder = Path::new(env!("CARGO_TARGET_TMPDIR")).join("asking").join(name);
-    Repository::new(&folder, "report").with_program()
+    Repository::new(name, "report").with_program()
 }
 
 /// One where the program is built.
@@ -193,11 +191,11 @@ fn what_changed_is_proved_anew_and_nothing_else() {
     asked("the list of crates changed", true);
     made.write("kit/version", "another kit\n");
     asked("rt is another", true);
-    made.remove("target/bin/veilbuzz");
+    made.remove(PROGRAM);
     asked("the program is gone", true);
-    made.write("target/bin/veilbuzz", "changed");
+    made.write(PROGRAM, "changed");
     asked("the program changed", true);
-    fs::set_permissions(made.path("target/bin/veilbuzz"), Permissions::from_mode(0o644)).expect("it can be changed");
+    fs::set_permissions(made.path(PROGRAM), Permissions::from_mode(0o644)).expect("it can be changed");
     asked("the program cannot be run", true);
     made.write("crates/other/src/lib.rt", "changed");
     made.write("crates/lists/must-fail/one.edit", "new");
@@ -210,7 +208,7 @@ fn what_is_not_proved_is_not_run() {
     made.write("crates/report/src/lib.rt", "wrong");
     made.write("broken", "");
     for _ in 0..2 {
-        refuses(&made.ask(&chart("loop")), "rt: report NOT PROVED (exit 1, 3 s)");
+        refuses(&made.ask(&chart("loop")), "rt: the library report did not build, so nothing above it was checked");
     }
     refuses(
         &output(made.command_without(&["rt"]).arg(chart("loop"))),

@@ -3,7 +3,6 @@
 use reports::made_up::{first_line, output, said, start, Repository, WAITING};
 use std::fs::{self, File};
 use std::os::unix::fs::symlink;
-use std::path::Path;
 use std::process::{Child, Output};
 use std::time::{Duration, SystemTime};
 
@@ -11,7 +10,7 @@ use std::time::{Duration, SystemTime};
 const NONE: i32 = 2;
 
 const BUILDING: &str = "building the desk, which takes some minutes the first time\n";
-const PROVING: &str = "proving the functions for C, 3 crates\nproved other (2 of 3)\nproved boundary (3 of 3)\n";
+const PROVING: &str = "proving the functions for C, 4 crates\nproved other (1 of 4)\nproved boundary (2 of 4)\nproved boundary_c (3 of 4)\n";
 const COMPILING: &str = "compiling the desk\n";
 
 /// What stands for cargo. It takes all input that it can get, and fails where there is a file `wrong` or where something is built already:
@@ -48,15 +47,12 @@ const SOURCES: [&str; 7] = [
 ];
 
 fn made_up(name: &str) -> Repository {
-    let folder = Path::new(env!("CARGO_TARGET_TMPDIR")).join("desk").join(name);
-    let made = Repository::new(&folder, "desk");
+    let made = Repository::new(name, "desk");
     for source in SOURCES {
         made.write(source, source);
     }
     made.write_script("rust/bin/cargo", CARGO);
     made.write_script("rust/desk", DESK);
-    // whichever machine this is
-    made.write_script("kit/bin/uname", "#!/bin/sh\necho x86_64\n");
     made
 }
 
@@ -106,7 +102,7 @@ fn the_first_time_it_says_how_far_it_is_and_then_nothing_more() {
     let before = format!("{BUILDING}{PROVING}{COMPILING}");
     answers(&made, &made.ask("--help"), "--help", &before);
     answers(&made, &made.ask("--help"), "--help", "");
-    assert_eq!((made.calls("rt staticlib"), made.calls("cargo")), (1, 1));
+    assert_eq!((made.calls("rt lib"), made.calls("cargo")), (1, 1));
 }
 
 #[test]
@@ -159,7 +155,7 @@ fn what_changed_is_built_anew_and_nothing_else() {
         for before in [before.as_str(), ""] {
             answers(&made, &made.ask(what), what, before);
         }
-        assert_eq!((made.calls("rt staticlib"), made.calls("cargo")), calls, "{what}");
+        assert_eq!((made.calls("rt lib"), made.calls("cargo")), calls, "{what}");
     };
     for source in SOURCES {
         made.write(source, &source.to_uppercase());
@@ -210,7 +206,7 @@ fn a_built_desk_needs_neither_rt_nor_cargo() {
         assert!(!said(&ask(&["rt"])).contains("cargo") && !said(&ask(&["cargo"])).contains("no rt"));
     };
     refuse();
-    assert_eq!((made.calls("rt staticlib"), made.calls("cargo")), (0, 0));
+    assert_eq!((made.calls("rt lib"), made.calls("cargo")), (0, 0));
     made.ask("new");
     for missing in [&["rt"][..], &["cargo"], &["rt", "cargo"]] {
         answers(&made, &ask(missing), "new", "");
@@ -226,8 +222,8 @@ fn what_is_not_proved_is_not_run() {
     made.write("broken", "");
     for _ in 0..2 {
         let words = [
-            "rt: lists proved (unchanged",
-            "rt: other NOT PROVED (exit 1, 3 s)\n",
+            "fn other::first: not proved\n",
+            "rt: the library other did not build, so nothing above it was checked\n",
             "so it is not built; mend or undo",
         ];
         refuses(&made.ask("new"), &words);
@@ -282,23 +278,24 @@ fn of_two_at_once_the_second_waits_and_builds_nothing() {
     answers(&made, &ended(first), "new", &format!("{BUILDING}{PROVING}{COMPILING}"));
     answers(&made, &ended(second), "new", "");
     prints_folder(&made, &ended(archive), "");
-    assert_eq!((made.calls("rt staticlib"), made.calls("cargo")), (1, 1));
+    assert_eq!((made.calls("rt lib"), made.calls("cargo")), (1, 1));
 }
 
 #[test]
-fn on_another_machine_it_says_the_same() {
-    let made = made_up("machine");
-    made.write_script("kit/bin/uname", "#!/bin/sh\necho another\n");
-    let writes_last = "#!/bin/sh\nfor word; do :; done\necho compiled >\"$word\"\n";
-    made.write_script("kit/on/another/toolchain/bin/clang", writes_last);
-    made.write_script("kit/on/another/toolchain/bin/llvm-ar", "#!/bin/sh\ncp \"$3\" \"$2\"\n");
-    let before = format!("{BUILDING}{PROVING}{COMPILING}");
-    answers(&made, &made.ask("new"), "new", &before);
-    let archive = |folder: &str| fs::read_to_string(made.path(folder).join("libboundary.a")).expect("it is there");
-    assert_eq!(
-        (archive("target/archive").as_str(), archive("target/staticlib").as_str()),
-        ("compiled\n", "archive\n")
-    );
+fn there_is_one_archive_and_what_rt_made_is_copied_under_its_name() {
+    let made = made_up("one");
+    let strange = output(&mut made.shell("exec tests/archive x86-64"));
+    refuses(&strange, &["archive: say 'archive' and no more"]);
+    assert_eq!(made.calls("rt"), 0);
+    prints_folder(&made, &output(&mut made.shell("exec tests/archive")), PROVING);
+    let archive = |file: &str| fs::read_to_string(made.path(file)).expect("it is there");
+    for file in ["target/archive/libboundary.a", "crates/boundary_c/out/libboundary_c.a"] {
+        assert_eq!(archive(file), "archive\n");
+    }
+    // what rt makes beside the sources is none of them
+    made.remove("crates/boundary_c/out/libboundary_c.a");
+    prints_folder(&made, &output(&mut made.shell("exec tests/archive")), "");
+    assert_eq!(made.calls("rt"), 1);
 }
 
 #[test]
@@ -306,7 +303,7 @@ fn the_archive_says_how_far_it_is_and_prints_its_folder_alone() {
     let made = made_up("archive");
     let archive = |before: &str, calls: usize| {
         prints_folder(&made, &output(&mut made.shell("exec tests/archive")), before);
-        assert_eq!(made.calls("rt staticlib"), calls);
+        assert_eq!(made.calls("rt lib"), calls);
     };
     archive(PROVING, 1);
     archive("", 1);

@@ -7,8 +7,7 @@ use reports::hold::agrees;
 use second::report::report;
 use std::env;
 
-/// Each chart is one run of the program, so the number decides how long this takes: about a minute on two processors where the program
-/// runs under the kit's emulator, and a few seconds where it needs none.
+/// Each chart is one run of the program, so the number decides how long this takes: a few seconds.
 const CHARTS: u64 = 2_000;
 
 /// The first seed. Another one: VEILBUZZ_SEED=7 cargo test --manifest-path tests/Cargo.toml -p reports --test random.

@@ -7,8 +7,8 @@ use reports::program::{answer, command_after};
 use second::limits::{BLOCKS, NODES};
 use second::report::INPUT;
 
-/// Sets the stack of the program, and that of the emulator's guest, which has a size of its own.
-const ONE_MIB: &str = "ulimit -s 1024; export QEMU_STACK_SIZE=1048576";
+/// Sets the stack of the program.
+const ONE_MIB: &str = "ulimit -s 1024";
 
 #[test]
 fn a_stack_of_1_mib_is_enough() {

@@ -26,6 +26,11 @@ def norm(name):
     return re.sub(r"[-_]", "", name).lower()
 
 
+def alike(name, among):
+    """The names of these that are spelled as this one but for humps, dashes and underscores."""
+    return {it for it in among if norm(it) == norm(name) and it[0].isupper() == name[0].isupper()}
+
+
 def read(path):
     with open(path, encoding="utf-8") as f:
         return f.read()
@@ -90,20 +95,20 @@ class Tree:
             return name
         if path and os.path.isfile(path):
             # a page may be turned in part already
-            alike = {it for it in declared(read(path)) if norm(it) == norm(name)} or {it for it in self.texts.get(path, ()) if norm(it) == norm(name)}
-            if len(alike) == 1:
-                return alike.pop()
+            found = alike(name, declared(read(path))) or alike(name, self.texts.get(path, ()))
+            if len(found) == 1:
+                return found.pop()
             pairs = self.paired(path)
-            told = {new for old, new in pairs.items() if norm(old) == norm(name)}
+            told = {pairs[it] for it in alike(name, pairs)}
             if len(told) == 1:
                 return told.pop()
             return None
         if not path:
             if name in self.all or not self.was(name):
                 return name
-            alike = self.by_norm.get(norm(name), set())
-            if len(alike) == 1:
-                return next(iter(alike))
+            found = alike(name, self.by_norm.get(norm(name), set()))
+            if len(found) == 1:
+                return found.pop()
         return None
 
 
@@ -152,11 +157,11 @@ def claims(tree, line, left):
         name = parts[at]
         if name in there:
             continue
-        alike = [it for it in there if norm(it) == norm(name)]
-        if len(alike) != 1 and len(there) == len(was):
-            alike = [new for old, new in zip(was, there) if norm(old) == norm(name)]
-        if len(alike) == 1:
-            parts[at] = alike[0]
+        found = [it for it in there if norm(it) == norm(name)]
+        if len(found) != 1 and len(there) == len(was):
+            found = [new for old, new in zip(was, there) if norm(old) == norm(name)]
+        if len(found) == 1:
+            parts[at] = found[0]
         else:
             left.append(f"docs/CLAIMS.md: {record} of {file} has no {name}")
     return "`".join(parts)

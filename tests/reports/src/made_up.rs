@@ -52,7 +52,8 @@ const SCRIPTS: [&str; 9] = [
 ];
 
 /// Three crates that the program stands on, four that the functions for C do.
-const CRATES: &str = "# from the ground floor up\nlists:\nreport: lists\nveilbuzz: report\nother: lists\nboundary: lists other\n\
+const CRATES: &str =
+    "# from the ground floor up\nlists:\nreport: lists\nveilbuzz: report\nother: lists\nboundary: lists other\n\
     boundary_c staticlib: lists other boundary\n";
 
 /// What stands for rt, which is run in a crate's folder and says nothing of a library that has not changed, as here `lists`. It fails where there

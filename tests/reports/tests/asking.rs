@@ -208,7 +208,10 @@ fn what_is_not_proved_is_not_run() {
     made.write("crates/report/src/lib.rt", "wrong");
     made.write("broken", "");
     for _ in 0..2 {
-        refuses(&made.ask(&chart("loop")), "rt: the library report did not build, so nothing above it was checked");
+        refuses(
+            &made.ask(&chart("loop")),
+            "rt: the library report did not build, so nothing above it was checked",
+        );
     }
     refuses(
         &output(made.command_without(&["rt"]).arg(chart("loop"))),

@@ -8,12 +8,12 @@ fn text(name: &str) -> String {
     fs::read_to_string(file(name)).unwrap_or_else(|error| panic!("{name}: {error}"))
 }
 
-/// The crates that crates.txt lists.
+/// The crates that crates.txt lists. What stands between a name and its colon, as `staticlib`, says what is made of the crate.
 fn crates() -> Vec<String> {
     let lines = text("crates.txt");
     let listed = lines.lines().filter(|line| !line.starts_with('#'));
     listed
-        .filter_map(|line| line.split_once(':').map(|(name, _)| name.to_string()))
+        .filter_map(|line| line.split_once(':')?.0.split(' ').next().map(str::to_string))
         .collect()
 }
 

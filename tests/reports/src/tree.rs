@@ -17,7 +17,7 @@ pub fn files(name: &str) -> Vec<String> {
         .unwrap_or_else(|error| panic!("{name}: {error}"))
         .map(|entry| entry.expect("the folder can be listed").file_name())
         .map(|entry| entry.into_string().expect("a name in UTF-8"))
-        .filter(|entry| entry != "target")
+        .filter(|entry| entry != "target" && entry != "out")
         .collect();
     inside.sort();
     inside

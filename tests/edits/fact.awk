@@ -24,6 +24,19 @@ function misfits() {
         words ~ /(no clause covers|write the clause|takes [0-9]+ arguments|is a hole)/ || plain()
 }
 
+# An equation or an inequality that does not hold, in the prover's words, or a statement that is made of such. What it says of terms of another kind
+# is not among them.
+function fails() {
+    return words ~ /^it is not proved that / ||
+        words ~ /^`omega`: the (goal|part `[^`]*` of the goal) does not follow from what it read/ ||
+        words ~ /^`search`: no proof of / ||
+        words ~ /^on the face `i = [01]` this λ's body is / ||
+        words ~ /^`rw`: no occurrence of the path's left endpoint in the goal/ ||
+        words ~ /^give a proof of that as the last argument, `rw L t` / ||
+        words ~ /^(as printed|computed as far as they go), the two (types|values) (are|differ only|first differ) / ||
+        words ~ /^expected type `[^`]*(≡|≤|<|⊥|Below|Hold |Put |SettledIn )/
+}
+
 # Whether a type that is expected or found is one of data, so that the term is of the wrong kind and no fact is in question.
 function plain() {
     return words ~ /(expected|has) type `(mathlib\.Core\.(Bool|List)\.|Prim\.Native\.Nat\.|ℕ|Bool|List|Type|→|×|[0-9]|[ ()])+`/
@@ -72,7 +85,7 @@ sub(/^rt: must-fail /, "") {
     is_note = sub(/^note: /, "", told)
     sub(/^\.\//, "", told)
     take(told)
-    if (misfits())
+    if (misfits() || !fails())
         print edit, "- " told
     else if (file ~ /^proofs\/.*\/(Proof|Answers|Invariants)\.antt$/)
         print edit, crate "::" path(file)

@@ -222,7 +222,7 @@ def page(tree, path, left):
 
 def main():
     tree, left, changed = Tree(), [], 0
-    pages = [it for it in ["README.md", *sorted(glob.glob("docs/*.md")), "charts/README.md", "tests/compare/README.md"] if os.path.basename(it) not in ("PORT.md", "PORT-NAMES.md")]
+    pages = [it for it in ["README.md", *sorted(glob.glob("docs/*.md")), "charts/README.md", "tests/compare/README.md"] if os.path.basename(it) not in ("PORT.md", "PORT-NAMES.md", "DESIGN-PASS.md")]
     for path in pages:
         old, new = page(tree, path, left)
         if old != new:

@@ -50,9 +50,11 @@ function path(file) {
     return file
 }
 
-# The function that a line of code is in, by its path: the last that begins up to there, with the type that it is of.
-function holding(crate, file, line,    text, count, type, found, module) {
-    while ((getline text < (crates "/" crate "/" file)) > 0 && ++count <= line) {
+# The function that a line of code is in, by its path: the last that begins up to there, with the type that it is of; of an attribute's line the
+# function below it.
+function holding(crate, file, line,    text, count, type, found, module, below) {
+    while ((getline text < (crates "/" crate "/" file)) > 0 && (++count <= line || below)) {
+        if (count == line && text ~ /^ *#\[/) below = 1
         if (text ~ /^}/) type = ""
         if (text ~ /^impl/) {
             type = text
@@ -65,6 +67,7 @@ function holding(crate, file, line,    text, count, type, found, module) {
             found = text
             sub(/^.*fn /, "", found)
             sub(/[^A-Za-z0-9_].*$/, "", found)
+            if (count >= line) below = 0
         }
     }
     close(crates "/" crate "/" file)

@@ -1,4 +1,5 @@
 -- From a chart that was read and drawn, and buffers that are long enough or not, to what the analysis is defined to answer and leave.
+use Rattle.std.specs.Prelude.{Result}
 use Prim.Native.Nat.{ℕ, ◌*◌, ◌≤◌}
 use mathlib.Core.Bool.{Bool, true, false, cond}
 use mathlib.Core.List.{List}
@@ -17,11 +18,12 @@ use Rattle.plan.specs.Listed.{nodes_in, blocks_in, plan_in, Drawn}
 use Rattle.drawing.specs.Drawing.{Draws}
 use Rattle.tables.specs.Lent.{Lent}
 use Rattle.tables.specs.Inner.{Roomy}
-use Rattle.analysis.specs.declared.Analysed.{Analysed}
 use Rattle.analysis.specs.Analysis.{Buffers, table_in, buffers_short, refuse, finish, analysed}
 use Rattle.analysis.specs.Inner.{sized, buffers_by, Finishes}
 use Rattle.analysis.proofs.Room.{room-parts, table-room}
 use Rattle.analysis.proofs.Finishing.{blocks-written}
+use Rattle.analysis.specs.declared.Unanalysed.{Unanalysed}
+use Rattle.analysis.specs.declared.SettledAfter.{SettledAfter}
 
 module _ (bytes columns plan : List ℕ) (draws : Draws bytes columns plan) (header : Header) (count : ℕ) (list : List ℕ) (found : AcceptedAs bytes header count list)
     (allowance : ℕ) (buffers : Buffers) where
@@ -60,7 +62,7 @@ module _ (bytes columns plan : List ℕ) (draws : Draws bytes columns plan) (hea
       classes-room = (room-parts (plan_in columns plan) buffers (sym tells ∙ is)).1.1
 
       pub finishes-analysed : (blocks : List ℕ) → blocks ≡ patch buffers.blocks 0 count (λ k. get_or list k 0)
-          → (answer : Analysed) (left : Lent) (classes : List ℕ) → Finishes (plan_in columns plan) allowance (table_in buffers) buffers.classes answer left classes
+          → (answer : Result SettledAfter Unanalysed) (left : Lent) (classes : List ℕ) → Finishes (plan_in columns plan) allowance (table_in buffers) buffers.classes answer left classes
           → record { answer = answer; buffers = buffers_by blocks left classes } ≡ analysed bytes allowance buffers
       finishes-analysed blocks e answer left classes finishes =
           (λ i. record {

@@ -1,7 +1,7 @@
 -- What the analysis answers and what it leaves in each lent buffer, for any bytes, any allowance and any buffers. Rules 11.11, 11.12, 12.2 to 12.4
--- and 12.8. Refusal 12 is an answer of its own, `Unsettled`, that carries the allowance and B: so what an answer says in numbers follows from the
+-- and 12.8. Refusal 12 is an error of its own, `Unsettled`, that carries the allowance and B: so what an answer says in numbers follows from the
 -- answer alone. `Refused` never carries it.
-use Rattle.std.specs.Prelude.{ℕ, ◌*◌, Bool, ◌||◌, List, [], ◌∷◌, length, replicate, ltb}
+use Rattle.std.specs.Prelude.{ℕ, ◌*◌, Bool, ◌||◌, List, [], ◌∷◌, length, replicate, ltb, Result, Ok, Err}
 use Rattle.lists.specs.Choice.{◌⇒◌, first_case}
 use Rattle.lists.specs.Lists.{written}
 use Rattle.refusals.specs.declared.Refusal.{Refusal}
@@ -13,12 +13,13 @@ use Rattle.chart.specs.Chart.{Read, accepted, refused, read_chart}
 use Rattle.cache.specs.Ages.{Ages}
 use Rattle.flow.specs.Flow.{Cell}
 use Rattle.flow.specs.Pass.{Outcome, settled, spent, settle}
-use Rattle.analysis.specs.declared.Analysed.{Analysed}
-use Rattle.analysis.specs.declared.Analysed.TheVariants.{Settled, Unsettled, Refused}
 use Rattle.ages.specs.Plan.{Plan}
 use Rattle.ages.specs.Charted.{plan_of, ages_flow}
 use Rattle.classes.specs.Class.{table_classes}
 use Rattle.tables.specs.Lent.{Lent, ages_used, marks_used, table_short, lent_of}
+use Rattle.analysis.specs.declared.Unanalysed.{Unanalysed}
+use Rattle.analysis.specs.declared.Unanalysed.TheVariants.{Unsettled, Refused}
+use Rattle.analysis.specs.declared.SettledAfter.{SettledAfter}
 
 -- Rule 12.2: the five buffers that the analysis writes to.
 pub record Buffers : Type 0 where
@@ -30,8 +31,23 @@ pub record Buffers : Type 0 where
 
 -- The answer, and the buffers at exit.
 pub record Left : Type 0 where
-  pub answer : Analysed
+  pub answer : Result SettledAfter Unanalysed
   pub buffers : Buffers
+
+-- An analysis that settled after so many passes, with B; one that did not within an allowance, with B; and one that was refused before it began.
+abbrev pub settled_after : ℕ → ℕ → Result SettledAfter Unanalysed
+settled_after passes blocks = Ok (record { passes = passes; blocks = blocks })
+
+abbrev pub unsettled : ℕ → ℕ → Result SettledAfter Unanalysed
+unsettled allowance blocks = Err (Unsettled allowance blocks)
+
+abbrev pub analysis_refused : Refusal → Result SettledAfter Unanalysed
+analysis_refused refusal = Err (Refused refusal)
+
+-- Rule 11.12: which refusal it is.
+abbrev pub refusal_of : Unanalysed → Refusal
+refusal_of (Unsettled allowance blocks) = refusals.Unsettled
+refusal_of (Refused refusal) = refusal
 
 -- The answer in numbers: number and place, both 0 for no refusal, then the pass count and B.
 pub record AnalysedSaid : Type 0 where
@@ -41,11 +57,11 @@ pub record AnalysedSaid : Type 0 where
   pub blocks : ℕ
 
 -- Rules 12.4 and 12.8: pass count and B of an analysis that settles, number and place of a refusal; only 12 has all four.
-abbrev pub analysed_says : Analysed → AnalysedSaid
-analysed_says (Settled passes blocks) = record { number = 0; place = 0; passes = passes; blocks = blocks }
-analysed_says (Unsettled allowance blocks) =
+abbrev pub analysed_says : Result SettledAfter Unanalysed → AnalysedSaid
+analysed_says (Ok done) = record { number = 0; place = 0; passes = done.passes; blocks = done.blocks }
+analysed_says (Err (Unsettled allowance blocks)) =
     record { number = number_of refusals.Unsettled; place = place_of refusals.Unsettled; passes = allowance; blocks = blocks }
-analysed_says (Refused refusal) = record { number = number_of refusal; place = place_of refusal; passes = 0; blocks = 0 }
+analysed_says (Err (Refused refusal)) = record { number = number_of refusal; place = place_of refusal; passes = 0; blocks = 0 }
 
 -- The table in these buffers.
 abbrev pub table_in : Buffers → Lent
@@ -73,7 +89,7 @@ exit_buffers blocks must may marks classes =
     }
 
 -- The answer with the buffers at exit.
-abbrev pub exit_left : List ℕ → List ℕ → List ℕ → List ℕ → List ℕ → Analysed → Left
+abbrev pub exit_left : List ℕ → List ℕ → List ℕ → List ℕ → List ℕ → Result SettledAfter Unanalysed → Left
 exit_left blocks must may marks classes answer =
     record { answer = answer; buffers = exit_buffers blocks must may marks classes }
 
@@ -119,18 +135,18 @@ filled_by_zeros plan blocks buffers = fill blocks (zero_lent plan) (replicate (c
 unfoldable pub finish : Plan → List ℕ → ℕ → Buffers → Outcome Ages → Left
 finish plan blocks allowance buffers (settled passes table) =
     record {
-      answer = Settled passes plan.blocks;
+      answer = settled_after passes plan.blocks;
       buffers = filled_by plan blocks table buffers;
     }
 finish plan blocks allowance buffers spent =
     record {
-      answer = Unsettled allowance plan.blocks;
+      answer = unsettled allowance plan.blocks;
       buffers = filled_by_zeros plan blocks buffers;
     }
 
 -- Rule 12.3, of refusals 1 to 11: the buffers are those that were lent.
 abbrev pub refuse : Buffers → Refusal → Left
-refuse buffers refusal = record { answer = Refused refusal; buffers = buffers }
+refuse buffers refusal = record { answer = analysis_refused refusal; buffers = buffers }
 
 -- Rules 11.11 and 11.12, in the order of their numbers; refusals 1 to 10 are the reader's.
 abbrev pub analyse_read : ℕ → Buffers → Read → Left

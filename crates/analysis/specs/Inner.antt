@@ -1,14 +1,15 @@
 -- What the analysis's inner functions promise one another: a table without a mark, and how an analysis ends whichever list of blocks is written
 -- beside it. Nothing here is a rule of the tool.
-use Rattle.std.specs.Prelude.{ℕ, List, [], ◌≡◌, replicate}
+use Rattle.std.specs.Prelude.{ℕ, List, [], ◌≡◌, replicate, Result}
 use Rattle.lists.specs.Lists.{written}
 use Rattle.flow.specs.Flow.{blank}
 use Rattle.flow.specs.Pass.{settle}
 use Rattle.ages.specs.Plan.{Plan, plan_flow}
 use Rattle.plan.specs.Listed.{plan_in}
 use Rattle.tables.specs.Lent.{Lent, over}
-use Rattle.analysis.specs.declared.Analysed.{Analysed}
 use Rattle.analysis.specs.Analysis.{Buffers, finish}
+use Rattle.analysis.specs.declared.Unanalysed.{Unanalysed}
+use Rattle.analysis.specs.declared.SettledAfter.{SettledAfter}
 
 -- A plan as far as its list alone tells: N and B, on which the room for a table and a cleared one depend, are those of any plan with
 -- this list.
@@ -25,7 +26,7 @@ buffers_by blocks table classes =
     record { blocks = blocks; must = table.must; may = table.may; marks = table.marks; classes = classes }
 
 -- The end of an analysis, but for the block list: whichever list is written beside it, this answer and these buffers are what is defined.
-abbrev pub Finishes : Plan → ℕ → Lent → List ℕ → Analysed → Lent → List ℕ → Type 0
+abbrev pub Finishes : Plan → ℕ → Lent → List ℕ → Result SettledAfter Unanalysed → Lent → List ℕ → Type 0
 Finishes plan allowance lent classes answer left left_classes = (list blocks : List ℕ)
     → record { answer = answer; buffers = buffers_by (written list blocks) left left_classes }
     ≡ finish plan list allowance (buffers_by blocks lent classes) (settle (plan_flow plan) allowance)

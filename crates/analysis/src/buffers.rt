@@ -4,13 +4,15 @@ ghost use Rattle.std.specs.Prelude.{◌≡◌, ◌≤◌, ◌<◌, length};
 ghost use Rattle.chart.specs.Geometry.{most_nodes, most_blocks};
 ghost use Rattle.flow.specs.Pass.{before};
 ghost use Rattle.ages.specs.Plan.{plan_flow};
-ghost use Rattle.plan.specs.Listed.{nodes_in, blocks_in, DrawnIn, plan_at};
+ghost use Rattle.plan.specs.Listed.{nodes_in, blocks_in};
+ghost use Rattle.plan.specs.AsPlan.{drawn_as};
 ghost use Rattle.tables.specs.Lent.{over};
 ghost use Rattle.tables.specs.Contract.{entry_table, exit_table, RoomFor};
 ghost use Rattle.analysis.specs.Analysis.{buffers_short, entry_buffers};
 ghost use Rattle.analysis.specs.Inner.{sized, blank_over};
 
 use chart::Geometry;
+use plan::DrawnPlan;
 use rows::Row;
 
 // Whether one of the buffers has fewer places than a plan uses.
@@ -47,23 +49,16 @@ pub(crate) fn clear(plan: &[u16], must: &mut [u8], may: &mut [u8], marks: &mut [
 }
 
 // Leaves the table before the first pass (rule 9.1): the start, met into a table without a mark, is taken as it is.
-pub(crate) fn start_table(
-    columns: &[u8],
-    plan: &[u16],
-    must: &mut [u8],
-    may: &mut [u8],
-    marks: &mut [u8],
-)
-    requires drawn_in { DrawnIn columns plan }
-    requires room_for { RoomFor plan.now must.old may.old marks.old }
-    ensures { exit_table must.new may.new marks.new ≡ over (plan_at columns plan) (before (plan_flow (plan_at columns plan))) (entry_table must.old may.old marks.old) }
+pub(crate) fn start_table(plan: DrawnPlan, must: &mut [u8], may: &mut [u8], marks: &mut [u8])
+    requires room_for { RoomFor plan.numbers.now must.old may.old marks.old }
+    ensures { exit_table must.new may.new marks.new ≡ over (drawn_as plan.entry) (before (plan_flow (drawn_as plan.entry))) (entry_table must.old may.old marks.old) }
 {
-    let blocks = plan::blocks_in(plan);
-    let entry = plan::entry_in(plan);
-    let empty = plan::empty_in(plan);
-    let start = Row::start(columns, empty);
+    let blocks = plan.blocks();
+    let entry = plan.entry();
+    let empty = plan.starts_empty();
+    let start = Row::start(plan.columns, empty);
     let musts = start.must;
     let mays = start.may;
-    clear(plan, must, may, marks);
+    clear(plan.numbers, must, may, marks);
     tables::meet_row(must, may, marks, blocks, entry, &musts, &mays);
 }

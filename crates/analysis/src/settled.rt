@@ -2,52 +2,61 @@
 // by 1 to 11, and zeros beside the block list by 12.
 ghost use Rattle.std.specs.Prelude.{◌≡◌, ◌*◌, ◌≤◌, length};
 ghost use Rattle.chart.specs.Geometry.{most_touches};
-ghost use Rattle.plan.specs.Listed.{nodes_in, DrawnIn, plan_at};
+ghost use Rattle.plan.specs.Listed.{nodes_in};
+ghost use Rattle.plan.specs.AsPlan.{drawn_as};
 ghost use Rattle.tables.specs.Contract.{entry_table, exit_table, RoomFor};
 ghost use Rattle.analysis.specs.Analysis.{entry_buffers, exit_left, analysed, analysed_says, analyse_says};
 ghost use Rattle.analysis.specs.Inner.{Finishes};
 
-use crate::Analysed;
 use crate::buffers::{clear, short_for, start_table};
+use crate::{SettledAfter, Unanalysed};
 use blocks::write_blocks;
-use chart::{Geometry, Verdict};
+use chart::Geometry;
+use plan::DrawnPlan;
 use refusals::Refusal;
-use settling::Settling;
+use tables::{PlanTable, Table};
 
 // Settles the table of a plan in buffers that have room, and writes classes; or leaves zeros, where the passes allowed were not enough.
 fn settle_table(
-    columns: &[u8],
-    plan: &[u16],
+    plan: DrawnPlan,
     allowance: usize,
     must: &mut [u8],
     may: &mut [u8],
     marks: &mut [u8],
     classes: &mut [u8],
-) -> Analysed
-    requires drawn_in { DrawnIn columns plan }
-    requires room_for { RoomFor plan.now must.old may.old marks.old }
-    requires plan_in_bounds { most_touches * nodes_in plan.now ≤ length classes.old }
-    ensures { Finishes (plan_at columns plan) allowance (entry_table must.old may.old marks.old) classes.old result (exit_table must.new may.new marks.new) classes.new }
+) -> Result<SettledAfter, Unanalysed>
+    requires room_for { RoomFor plan.numbers.now must.old may.old marks.old }
+    requires plan_in_bounds { most_touches * nodes_in plan.numbers.now ≤ length classes.old }
+    ensures { Finishes (drawn_as plan.entry) allowance (entry_table must.old may.old marks.old) classes.old result (exit_table must.new may.new marks.new) classes.new }
 {
-    let nodes = plan::nodes_in(plan);
-    let blocks = plan::blocks_in(plan);
-    start_table(columns, plan, must, may, marks);
-    let settling = settling::settle(columns, plan, must, may, marks, allowance);
+    let nodes = plan.nodes();
+    let blocks = plan.blocks();
+    start_table(plan, must, may, marks);
+    let settling = settling::settle(plan, must, may, marks, allowance);
     match settling {
-        Settling::Settled(passes) => {
-            classing::write_classes(columns, plan, must, may, marks, classes);
-            Analysed::Settled {
+        Some(passes) => {
+            let lent = Table {
+                must: must,
+                may: may,
+                marks: marks,
+            };
+            let table = PlanTable {
+                plan: plan,
+                table: lent,
+            };
+            classing::write_classes(table, classes);
+            Ok(SettledAfter {
                 passes: passes,
                 blocks: blocks,
-            }
+            })
         }
-        Settling::Spent => {
-            clear(plan, must, may, marks);
+        None => {
+            clear(plan.numbers, must, may, marks);
             tables::fill(classes, 0, Geometry::TOUCHES * nodes, 0);
-            Analysed::Unsettled {
+            Err(Unanalysed::Unsettled {
                 allowance: allowance,
                 blocks: blocks,
-            }
+            })
         }
     }
 }
@@ -62,22 +71,21 @@ pub fn analyse(
     may: &mut [u8],
     marks: &mut [u8],
     classes: &mut [u8],
-) -> Analysed
+) -> Result<SettledAfter, Unanalysed>
     ensures result_value { exit_left blocks.new must.new may.new marks.new classes.new result ≡ analysed chart.now allowance (entry_buffers blocks.old must.old may.old marks.old classes.old) }
     ensures result_value_2 { analysed_says result ≡ analyse_says chart.now allowance (entry_buffers blocks.old must.old may.old marks.old classes.old) }
 {
     let mut columns = [0u8; plan::COLUMNS];
     let mut plan = [0u16; plan::LENGTH];
     let reading = drawing::draw(chart, &mut columns, &mut plan);
-    let verdict = reading.verdict;
-    match verdict {
-        Verdict::Accepted(_, count) => {
-            if short_for(&plan, blocks, must, may, marks, classes) {
-                return Analysed::Refused(Refusal::ShortBuffer);
-            }
-            write_blocks(&reading.blocks, count, blocks);
-            settle_table(&columns, &plan, allowance, must, may, marks, classes)
-        }
-        Verdict::Refused(refusal) => Analysed::Refused(refusal),
+    let accepted = reading.verdict?;
+    if short_for(&plan, blocks, must, may, marks, classes) {
+        return Err(Unanalysed::Refused(Refusal::ShortBuffer));
     }
+    write_blocks(&reading.blocks, accepted.blocks, blocks);
+    let drawn = DrawnPlan {
+        columns: &columns,
+        numbers: &plan,
+    };
+    settle_table(drawn, allowance, must, may, marks, classes)
 }

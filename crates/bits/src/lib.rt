@@ -2,49 +2,40 @@
 // reach as far. Nothing is refused here.
 #![tactic(auto)]
 
-ghost use Rattle.std.specs.Prelude.{true, ◌≡◌, ◌*◌, ◌^◌, ◌≤◌, ◌<◌, min, length};
+ghost use Rattle.std.specs.Prelude.{true, ◌≡◌, ◌*◌, ◌^◌, ◌≤◌, ◌<◌, length};
 ghost use Rattle.bits.specs.Bits.{is_member, with_member, without_member, FirstFrom};
 
 // How many bits a word has.
 pub const WIDTH: usize = 64;
 
 // Puts a number into a set.
+#[tactic(auto, using(lists::proofs::Shifts::one_shifted), unfolding(crate::specs::Bits::with_member))]
 pub fn put(set: &mut [u64], n: usize)
     requires { n < 64 * length set.old }
     ensures { set.new ≡ with_member n set.old }
 {
-    let word = n / WIDTH;
-    set[word] = set[word] | (1 << (n % WIDTH));
+    set[n / WIDTH] |= 1 << (n % WIDTH);
 }
 
 // Takes a member out of a set.
+#[tactic(auto, using(lists::proofs::Shifts::one_shifted), unfolding(crate::specs::Bits::without_member))]
 pub fn take_out(set: &mut [u64], n: usize)
     requires { (n < 64 * length set.old) × (is_member set.old n ≡ true) }
     ensures { set.new ≡ without_member n set.old }
 {
-    let word = n / WIDTH;
-    set[word] = set[word] ^ (1 << (n % WIDTH));
-}
-
-// The smaller of two numbers.
-fn smaller(a: usize, b: usize) -> usize
-    ensures { result ≡ min a b }
-{
-    if a < b { a } else { b }
+    set[n / WIDTH] ^= 1 << (n % WIDTH);
 }
 
 // The first member below `count` in the words from number `first` on; `count` where there is none.
 fn first_in_words(set: &[u64], first: usize, count: usize) -> usize
-    requires { (first ≤ 2 ^ 32) × ((count ≤ 2 ^ 32) × (count ≤ 64 * length set.now)) }
+    requires { (count ≤ 2 ^ 32) × (count ≤ 64 * length set.now) }
     ensures { FirstFrom set.now (64 * first) count result }
 {
-    let mut word = first;
-    while WIDTH * word < count {
+    for word in first..count.div_ceil(WIDTH) {
         let bits = set[word];
         if bits != 0 {
-            return smaller(WIDTH * word + u64::trailing_zeros(bits) as usize, count);
+            return (WIDTH * word + bits.trailing_zeros() as usize).min(count);
         }
-        word += 1;
     }
     count
 }
@@ -64,7 +55,7 @@ pub fn first_from(set: &[u64], from: usize, count: usize) -> usize
         return from;
     }
     if rest != 0 {
-        return smaller(from + u64::trailing_zeros(rest) as usize, count);
+        return (from + rest.trailing_zeros() as usize).min(count);
     }
     first_in_words(set, word + 1, count)
 }

@@ -8,13 +8,14 @@ use native.Mathlib.Omega.{arith}
 use borrow.Author.Tests.{lt-ltb, le-ltb}
 use lib.ListN.{length, get_or, take, drop, replicate, length-append, length-take, length-drop}
 use lib.Seq.{paste, get_or-take, length-take-le, take-append-le, drop-append-le, take_at, drop-append-add}
+use Rattle.std.specs.Prelude.{Option, Some, None}
 use Rattle.lists.specs.Lists.{padded}
 use Rattle.lists.proofs.Lists.{length-padded, get_or-padded}
 use Rattle.blocks.specs.Blocks.{insert, insert_all, gathered, overfull, place_in}
-use Rattle.blocks.specs.Listing.{Ascending, Listing, Laid, LaidAll}
+use Rattle.blocks.specs.Listing.{Ascending, Listing, Laid}
 use Rattle.blocks.proofs.Search.{place-le}
 use Rattle.blocks.proofs.Insertion.{insert-there, insert-new, asc-insert, asc-gathered}
-use Rattle.blocks.proofs.Exact.{insert-longer}
+use Rattle.blocks.proofs.Exact.{insert-all-longer}
 
 -- ---- a list in an array
 
@@ -70,12 +71,12 @@ module _ (size count : ℕ) (array : List ℕ) (b p : ℕ) (given : Listing size
   out-length : place_in (take count array) b < length (take count array) → p < count
   out-length h = omega (arith, listing-length size count array given, placed)
 
-  pub put-there : p < count → get_or array p 0 ≡ b → Laid size (insert b (take count array)) count array
+  pub put-there : p < count → get_or array p 0 ≡ b → Laid size (insert b (take count array)) (Some count) array
   put-there h e =
       let same : insert b (take count array) ≡ take count array = insert-there b (take count array) (in-length h) (at_place h ∙ e) in
       record {
-        count_is = sym (ap length same ∙ listing-length size count array given);
-        laid = λ _. given.laid ∙ ap (padded size) (sym same);
+        within = (sym (ap length same ∙ listing-length size count array given), given.short, given.laid ∙ ap (padded size) (sym same));
+        over = tt;
       }
 
   module _ (new : p < count → get_or array p 0 ≡ b → ⊥) where
@@ -87,55 +88,51 @@ module _ (size count : ℕ) (array : List ℕ) (b p : ℕ) (given : Listing size
     within-list : p ≤ length (take count array)
     within-list = omega (arith, listing-length size count array given, put-place)
 
-    put-counted : count + 1 ≡ length (insert b (take count array))
+    pub put-counted : count + 1 ≡ length (insert b (take count array))
     put-counted = sym (ap length put-between ∙ length-put b p (take count array) within-list ∙ ap (λ (k : ℕ). k + 1) (listing-length size count array given))
 
-    pub put-over : size ≤ count → Laid size (insert b (take count array)) (count + 1) array
-    put-over h = record { count_is = put-counted; laid = λ k. absurd (omega arith) }
+    pub put-over : size ≤ count → Laid size (insert b (take count array)) None array
+    put-over h = record { within = tt; over = omega (arith, put-counted) }
 
-    pub put-new : count < size → (after : List ℕ) → after ≡ paste array p (b ∷ drop p array) (count - p + 1) → Laid size (insert b (take count array)) (count + 1) after
+    pub put-new : count < size → (after : List ℕ) → after ≡ paste array p (b ∷ drop p array) (count - p + 1) → Laid size (insert b (take count array)) (Some (count + 1)) after
     put-new h after e =
         record {
-          count_is = put-counted;
-          laid = λ _. e
-              ∙ ap (λ (a : List ℕ). paste a p (b ∷ drop p a) (count - p + 1)) given.laid
-              ∙ ap (λ (k : ℕ). paste (padded size (take count array)) p (b ∷ drop p (padded size (take count array))) (k - p + 1)) (sym (listing-length size count array given))
-              ∙ paste-padded size (take count array) b p within-list (omega (arith, listing-length size count array given))
-              ∙ ap (padded size) (sym put-between);
+          within = (
+            put-counted,
+            omega arith,
+            e
+                ∙ ap (λ (a : List ℕ). paste a p (b ∷ drop p a) (count - p + 1)) given.laid
+                ∙ ap (λ (k : ℕ). paste (padded size (take count array)) p (b ∷ drop p (padded size (take count array))) (k - p + 1)) (sym (listing-length size count array given))
+                ∙ paste-padded size (take count array) b p within-list (omega (arith, listing-length size count array given))
+                ∙ ap (padded size) (sym put-between),
+          );
+          over = tt;
         }
 
 -- ---- the blocks of one node: none, one, or a second after the first
 
-pub put-none : (size count : ℕ) (array : List ℕ) → Listing size count array → LaidAll size (take count array) count array
-put-none size count array given = record { count_is = λ _. sym (listing-length size count array given); laid = λ _. given.laid; over = λ k. absurd (omega (arith, given.short)) }
+pub put-none : (size count : ℕ) (array : List ℕ) → Listing size count array → Laid size (take count array) (Some count) array
+put-none size count array given = record { within = (sym (listing-length size count array given), given.short, given.laid); over = tt }
 
-pub put_one : (size : ℕ) (l : List ℕ) (count : ℕ) (array : List ℕ) → Laid size l count array → LaidAll size l count array
-put_one size l count array one = record { count_is = λ _. one.count_is; laid = one.laid; over = λ k. omega (arith, one.count_is) }
+module _ (size count : ℕ) (array : List ℕ) (b : ℕ) (after : List ℕ) (given : Listing size count array) where
+  -- There was no room for the first, so there is none for it and others.
+  pub put-over-all : (more : List ℕ) → Laid size (insert b (take count array)) None after → Laid size (insert_all (b ∷ more) (take count array)) None after
+  put-over-all more first = record { within = tt; over = omega (arith, first.over, insert-all-longer more (insert b (take count array))) }
 
-module _ (size count : ℕ) (array : List ℕ) (b more : ℕ) (after : List ℕ) (given : Listing size count array) (first : Laid size (insert b (take count array)) more after) where
-  -- There was no room for the first, so there is none for both.
-  pub put-over-both : (c : ℕ) → size < more → LaidAll size (insert_all (b ∷ c ∷ []) (take count array)) more after
-  put-over-both c h =
-      record {
-        count_is = λ k. absurd (omega arith);
-        laid = λ k. absurd (omega arith);
-        over = λ _. omega (arith, first.count_is, insert-longer c (insert b (take count array)));
-      }
+  list-ascends : Ascending (length (take count array)) (take count array)
+  list-ascends i j p q =
+      let far : j < count = omega (arith, listing-length size count array given) in
+      rw (get_or-take count array i 0 (omega arith), get_or-take count array j 0 far) (given.ascending i j p far)
 
-  module _ (room : more ≤ size) where
-    list-ascends : Ascending (length (take count array)) (take count array)
-    list-ascends i j p q =
-        let far : j < count = omega (arith, listing-length size count array given) in
-        rw (get_or-take count array i 0 (omega arith), get_or-take count array j 0 far) (given.ascending i j p far)
-
+  module _ (more : ℕ) (first : Laid size (insert b (take count array)) (Some more) after) where
     pub put-listing : Listing size more after
     put-listing =
-        laid-listing size more after (insert b (take count array)) room first.count_is (first.laid room)
+        laid-listing size more after (insert b (take count array)) first.within.1 first.within.0 first.within.2
         (asc-insert b (take count array) list-ascends)
 
-    pub put_both : (c then : ℕ) (last : List ℕ) → Laid size (insert c (take more after)) then last → LaidAll size (insert_all (b ∷ c ∷ []) (take count array)) then last
+    pub put_both : (c : ℕ) (then : Option ℕ) (last : List ℕ) → Laid size (insert c (take more after)) then last → Laid size (insert_all (b ∷ c ∷ []) (take count array)) then last
     put_both c then last second =
-        subst (λ (l : List ℕ). LaidAll size (insert c l) then last) (laid-take size more after (insert b (take count array)) first.count_is (first.laid room)) (put_one size (insert c (take more after)) then last second)
+        subst (λ (l : List ℕ). Laid size (insert c l) then last) (laid-take size more after (insert b (take count array)) first.within.0 first.within.2) second
 
 -- ---- the blocks of all nodes
 
@@ -151,17 +148,17 @@ module _ (size : ℕ) (touches : ℕ → List ℕ) (n count : ℕ) (array : List
   pub gather-listing : Listing size count array
   gather-listing = laid-listing size count array (gathered touches n) short counted laid (asc-gathered touches n)
 
-  pub gather-more : (more : ℕ) (after : List ℕ) → LaidAll size (insert_all (touches n) (take count array)) more after → LaidAll size (gathered touches (n + 1)) more after
+  pub gather-more : (more : Option ℕ) (after : List ℕ) → Laid size (insert_all (touches n) (take count array)) more after → Laid size (gathered touches (n + 1)) more after
   gather-more more after h = rw (gathered-more touches n, ← laid-take size count array (gathered touches n) counted laid) h
 
-module _ (size : ℕ) (touches : ℕ → List ℕ) (n more : ℕ) (after : List ℕ) (given : LaidAll size (gathered touches (n + 1)) more after) where
+module _ (size : ℕ) (touches : ℕ → List ℕ) (n : ℕ) (after : List ℕ) where
   then_many : length (gathered touches (n + 1)) ≡ length (gathered touches (suc n))
   then_many = ap (λ (k : ℕ). length (gathered touches k)) (add-one n)
 
-  pub gather-over : size < more → overfull size touches n ≡ true
+  pub gather-over : Laid size (gathered touches (n + 1)) None after → overfull size touches n ≡ true
   unfolding overfull
-  gather-over h = lt-ltb size (length (gathered touches (suc n))) (omega (arith, then_many, given.over h))
+  gather-over given = lt-ltb size (length (gathered touches (suc n))) (omega (arith, then_many, given.over))
 
-  pub gather-within : more ≤ size → overfull size touches n ≡ false
+  pub gather-within : (more : ℕ) → Laid size (gathered touches (n + 1)) (Some more) after → overfull size touches n ≡ false
   unfolding overfull
-  gather-within h = le-ltb size (length (gathered touches (suc n))) (omega (arith, then_many, given.count_is h))
+  gather-within more given = le-ltb size (length (gathered touches (suc n))) (omega (arith, then_many, given.within.0, given.within.1))

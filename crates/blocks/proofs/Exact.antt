@@ -70,13 +70,13 @@ gathered-same one other same (suc nodes) = let rest = gathered-same one other sa
 
 -- ---- a list of blocks never gets shorter
 
-pub insert-longer : (c : ℕ) (l : List ℕ) → length l ≤ length (insert c l)
+insert-longer : (c : ℕ) (l : List ℕ) → length l ≤ length (insert c l)
 insert-longer c [] = omega arith
 insert-longer c (x ∷ l) =
     let rest = insert-longer c l in
     insert-cases (λ (m : List ℕ). length (x ∷ l) ≤ length m) c x l (λ h. omega arith) (λ h. omega arith) (λ h. omega arith)
 
-insert-all-longer : (cs l : List ℕ) → length l ≤ length (insert_all cs l)
+pub insert-all-longer : (cs l : List ℕ) → length l ≤ length (insert_all cs l)
 insert-all-longer [] l = omega arith
 insert-all-longer (c ∷ cs) l = omega (arith, insert-longer c l, insert-all-longer cs (insert c l))
 

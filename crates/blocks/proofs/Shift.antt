@@ -1,40 +1,61 @@
 -- A block stored in a list, and what stands from there on moved up by one.
-use mathlib.Core.List.{List, ◌∷◌}
+use mathlib.Core.List.{List, [], ◌∷◌, ◌++◌, append_assoc, append-nil}
 use mathlib.Core.Path.{◌≡◌, sym, ap, ◌∙◌}
-use Prim.Native.Nat.{ℕ, ◌+◌, ◌≤◌, ◌<◌}
+use Prim.Native.Nat.{ℕ, suc, ◌+◌, ◌≤◌, ◌<◌}
 use native.Mathlib.Numerals.{add-one}
 use native.Mathlib.Omega.{arith}
-use lib.ListN.{length, get_or, drop, set, length-drop}
-use lib.Seq.{paste, paste-zero, paste-suc, drop-paste, get_or-drop}
-use Rattle.blocks.specs.Listing.{shifted, carried_at}
+use lib.ListN.{length, get_or, take, drop, set, length-drop, drop_of_length-le}
+use lib.Seq.{paste, take-suc, drop-cons, take-take, length-take-le, set_at, get_or_at}
+use borrow.Rule.Slice.PartMut.{put_mid}
+use Rattle.std.proofs.lemmas.Slice.{put_mid-paste}
 
-get_or-paste-past : (d s : List ℕ) (at n : ℕ) → at ≤ length d → n ≤ length s → get_or (paste d at s n) (at + n) 0 ≡ get_or d (at + n) 0
-get_or-paste-past d s at n h k =
-    let z : at + n + 0 ≡ at + n = omega arith in
-    ap (λ (i : ℕ). get_or (paste d at s n) i 0) (sym z)
-    ∙ sym (get_or-drop (at + n) (paste d at s n) 0 0)
-    ∙ ap (λ (l : List ℕ). get_or l 0 0) (drop-paste d at s n h k)
-    ∙ get_or-drop (at + n) d 0 0
-    ∙ ap (λ (i : ℕ). get_or d i 0) z
+-- A list when so many places of it have the block in front of it, and what stood before each of them; and what is carried to the next.
+abbrev pub shifted : List ℕ → ℕ → ℕ → List ℕ
+shifted l block i = take i (block ∷ l) ++ drop i l
 
-module _ (l : List ℕ) (place block : ℕ) where
-  pub shift-begins : l ≡ shifted l place block 0
-  shift-begins = paste-zero l place (block ∷ drop place l)
+abbrev pub carried_at : List ℕ → ℕ → ℕ → ℕ
+carried_at l block i = get_or (block ∷ l) i 0
 
-  module _ (now : List ℕ) (carried i : ℕ) (fits : place + i < length l) (stored : now ≡ shifted l place block i) (carries : carried ≡ carried_at l place block i) where
-    within : i < length (block ∷ drop place l)
-    within = omega (arith, length-drop place l)
+module _ (l : List ℕ) (block : ℕ) where
+  module _ (now : List ℕ) (carried i : ℕ) (inside : i < length l) (stored : now ≡ shifted l block i) (carries : carried ≡ carried_at l block i) where
+    opened : now ≡ take i (block ∷ l) ++ (get_or l i 0 ∷ drop (suc i) l)
+    opened = stored ∙ ap (λ (rest : List ℕ). take i (block ∷ l) ++ rest) (drop-cons l i 0 inside)
 
-    pub shift-stores : set now (place + i) carried ≡ shifted l place block (i + 1)
+    long : length (take i (block ∷ l)) ≡ i
+    long = length-take-le i (block ∷ l) (omega arith)
+
+    pub shift-stores : set now i carried ≡ shifted l block (i + 1)
     shift-stores =
-        ap (λ (a : List ℕ). set a (place + i) carried) stored
-        ∙ ap (λ (v : ℕ). set (shifted l place block i) (place + i) v) carries
-        ∙ paste-suc l place (block ∷ drop place l) i 0 fits within
-        ∙ ap (shifted l place block) (sym (add-one i))
+        ap (λ (a : List ℕ). set a i carried) opened
+        ∙ set_at (take i (block ∷ l)) (get_or l i 0) (drop (suc i) l) carried i long
+        ∙ ap (λ (v : ℕ). take i (block ∷ l) ++ (v ∷ drop (suc i) l)) carries
+        ∙ sym
+        (ap (λ (front : List ℕ). front ++ drop (suc i) l) (take-suc (block ∷ l) i 0 (omega arith))
+        ∙ append_assoc (take i (block ∷ l)) (carried_at l block i ∷ []) (drop (suc i) l))
+        ∙ ap (shifted l block) (sym (add-one i))
 
-    pub shift-carries : get_or now (place + i) 0 ≡ carried_at l place block (i + 1)
-    shift-carries =
-        ap (λ (a : List ℕ). get_or a (place + i) 0) stored
-        ∙ get_or-paste-past l (block ∷ drop place l) place i (omega arith) (omega (arith, within))
-        ∙ sym (get_or-drop place l i 0)
-        ∙ ap (carried_at l place block) (sym (add-one i))
+    pub shift-carries : get_or now i 0 ≡ carried_at l block (i + 1)
+    shift-carries = rw (opened, add-one i) (get_or_at (take i (block ∷ l)) (get_or l i 0) (drop (suc i) l) 0 i long)
+
+  -- All places of the first n + 1.
+  shifted-all : (n i : ℕ) → n < length l → i ≤ length (take (suc n) l) → length (take (suc n) l) ≤ i → shifted (take (suc n) l) block i ≡ take (suc n) (block ∷ l)
+  shifted-all n i inside some all =
+      let whole : length (take (suc n) l) ≡ suc n = length-take-le (suc n) l (omega arith) in
+      let last : i ≡ suc n = omega arith in
+      let none : drop (suc n) (take (suc n) l) ≡ [] = (let short : length (take (suc n) l) ≤ suc n = omega arith in drop_of_length-le (take (suc n) l) short) in
+      ap (shifted (take (suc n) l) block) last
+      ∙ ap (λ (r : List ℕ). take (suc n) (block ∷ take (suc n) l) ++ r) none
+      ∙ append-nil (take (suc n) (block ∷ take (suc n) l))
+      ∙ ap (λ (r : List ℕ). block ∷ r) (take-take n (suc n) l (omega arith))
+
+-- A part of a list, when all of its places are stored, in its place.
+pub shift-ends : (l part : List ℕ) (place block k n i : ℕ) → k ≡ n + 1 → place + n < length l → i ≤ length (take k (drop place l)) → length (take k (drop place l)) ≤ i
+    → part ≡ shifted (take k (drop place l)) block i → put_mid place k l part ≡ paste l place (block ∷ drop place l) (n + 1)
+shift-ends l part place block k n i same inside some all stored =
+    let long : n < length (drop place l) = omega (arith, length-drop place l) in
+    let more : k ≡ suc n = omega arith in
+    let part-is : part ≡ take (suc n) (block ∷ drop place l) =
+    stored ∙ rw more (shifted-all (drop place l) block n i long (rw more at some) (rw more at all)) in
+    rw (add-one n)
+    (put_mid-paste place k l part (take (suc n) (block ∷ drop place l)) (suc n) part-is (omega arith) (sym (length-take-le (suc n) (block ∷ drop place l) (omega arith)))
+    ∙ ap (λ (r : List ℕ). take place l ++ r ++ drop (place + suc n) l) (take-take (suc n) (suc n) (block ∷ drop place l) (omega arith)))

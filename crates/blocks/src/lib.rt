@@ -3,29 +3,23 @@
 // Nothing is refused here: callers keep lists that ascend, and look whether there are more blocks than they have places for.
 #![tactic(auto)]
 
-ghost use Rattle.std.specs.Prelude.{cond, ◌≡◌, ◌∷◌, ◌+◌, ◌-◌, ◌≤◌, ◌<◌, length, take, drop, get_or, ltb};
+ghost use Rattle.std.specs.Prelude.{cond, ◌≡◌, ◌∷◌, ◌+◌, ◌-◌, ◌≤◌, ◌<◌, length, take, drop, get_or, ltb, IfNone};
 ghost use Rattle.std.proofs.Math.Seq.{paste};
 ghost use Rattle.lists.specs.Loops.{patch};
 ghost use Rattle.blocks.specs.Blocks.{place_in, insert};
 ghost use Rattle.blocks.specs.Listing.{Ascending, Listing, Laid};
 
+use std::mem::replace;
+
 // So many blocks are counted in one go; a longer list is halved first.
 const STRETCH: usize = 16;
 
-// 32 ones where `one` is below `other`, else 0: what is borrowed for their difference. Both ways to the difference are the same
-// instruction, which wraps, so no jump is left. Where the search chooses by a comparison which half to pass, the compiler makes a jump of
-// it, and nobody can guess where a search goes.
+// 32 ones where `one` is below `other`, else 0: what is borrowed for their difference. Where the search chooses by a comparison which half
+// to pass, the compiler makes a jump of it, and nobody can guess where a search goes.
 fn below_mask(one: u32, other: u32) -> usize
     ensures { result ≡ cond (ltb one other) 4294967295 0 }
 {
-    let from = one as usize;
-    let off = other as usize;
-    let difference = if off <= from {
-        from - off
-    } else {
-        from + (usize::MAX - off) + 1
-    };
-    difference >> 32
+    (one as usize).wrapping_sub(other as usize) >> 32
 }
 
 // The place of a block among the first `place + left` of an ascending list, where it is known to be at least `place`, and `left` to be a
@@ -37,8 +31,8 @@ fn place_by_count(blocks: &[u32], place: usize, left: usize, block: u32) -> usiz
     ensures { result ≡ place_in (take (place + left) blocks.now) block }
 {
     let mut below = 0u32;
-    for i in 0..left {
-        below += (blocks[place + i] < block) as u32;
+    for other in &blocks[place..place + left] {
+        below += u32::from(*other < block);
     }
     place + below as usize
 }
@@ -70,10 +64,8 @@ pub fn place_in(blocks: &[u32], count: usize, block: u32) -> usize
     requires ascending { Ascending count blocks.now }
     ensures { result ≡ place_in (take count blocks.now) block }
 {
-    if 0 < count {
-        if blocks[count - 1] < block {
-            return count;
-        }
+    if 0 < count && blocks[count - 1] < block {
+        return count;
     }
     if count <= STRETCH {
         return place_by_count(blocks, 0, count, block);
@@ -81,37 +73,35 @@ pub fn place_in(blocks: &[u32], count: usize, block: u32) -> usize
     place_by_halves(blocks, count, block)
 }
 
-// Stores `block` at `place`; what stands from there up to `count` moves up by one.
+// Stores `block` at `place`; what stands from there up to `count` moves up by one. With `copy_within` and a store a chart is read more slowly by a
+// tenth: that is too long to be put in place, and is called for each block.
 fn shift_in(blocks: &mut [u32], place: usize, count: usize, block: u32)
     requires { (place ≤ count) × (count < length blocks.old) }
     ensures { blocks.new ≡ paste blocks.old place (block ∷ drop place blocks.old) (count - place + 1) }
 {
-    let moved = count - place + 1;
     let mut carried = block;
-    for i in 0..moved {
-        let next = blocks[place + i];
-        blocks[place + i] = carried;
-        carried = next;
+    let part = &mut blocks[place..=count];
+    for slot in part.iter_mut() {
+        carried = replace(slot, carried);
     }
 }
 
-// Puts a block into the first `count` of an array of `most`, where it is not there yet, and answers how many there are then. What the
-// array holds where that is more than `most` is not said.
-pub fn put_block(blocks: &mut [u32], most: usize, count: usize, block: u32) -> usize
+// Puts a block into the first `count` of an array of `most`, where it is not there yet, and answers how many there are then, or `None` where
+// that is one too many: what the array holds then is not said.
+pub fn put_block(blocks: &mut [u32], most: usize, count: usize, block: u32) -> Option<usize>
     requires { Listing most count blocks.old }
-    ensures { Laid most (insert block (take count blocks.old)) result blocks.new }
+    ensures laid { Laid most (insert block (take count blocks.old)) result blocks.new }
+    ensures one_over { IfNone result (length (insert block (take count blocks.old)) ≡ most + 1) }
 {
     let place = place_in(blocks, count, block);
-    if place < count {
-        if blocks[place] == block {
-            return count;
-        }
+    if place < count && blocks[place] == block {
+        return Some(count);
     }
     if most <= count {
-        return count + 1;
+        return None;
     }
     shift_in(blocks, place, count, block);
-    count + 1
+    Some(count + 1)
 }
 
 // Writes the first `count` blocks of the list over the start of a lent buffer, which keeps the rest (rules 12.2 and 15.2).
@@ -119,7 +109,5 @@ pub fn write_blocks(list: &[u32], count: usize, blocks: &mut [u32])
     requires { (count ≤ length list.now) × (count ≤ length blocks.old) }
     ensures { blocks.new ≡ patch blocks.old 0 count (λ k. get_or list.now k 0) }
 {
-    for k in 0..count {
-        blocks[k] = list[k];
-    }
+    blocks[..count].copy_from_slice(&list[..count]);
 }

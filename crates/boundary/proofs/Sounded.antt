@@ -1,4 +1,5 @@
 -- Callers in other languages are told what the soundings want, by computing. Each has its name, so that one that fails is named.
+use Rattle.std.specs.Prelude.{Err, None, Ok, Some}
 use Prim.Native.Nat.{ℕ, ◌≤◌, ◌<◌}
 use mathlib.Core.Bool.{true, false, ◌||◌}
 use mathlib.Core.Path.{◌≡◌, refl}
@@ -11,15 +12,12 @@ use Rattle.lists.specs.Lists.{written}
 use Rattle.lists.proofs.Choice.{or-always, false-or, true-or}
 use Rattle.chart.specs.declared.headers.Start.TheVariants.{Unknown, Empty}
 use Rattle.chart.specs.declared.headers.Header.{Header}
-use Rattle.chart.specs.declared.readings.Verdict.TheVariants.{Accepted, Refused}
 use Rattle.refusals.specs.declared.Refusal.{Refusal}
 use Rattle.chart.specs.declared.records.RecordFields.{RecordFields}
 use Rattle.chart.specs.Header.{header_numbers, start_code}
-use Rattle.chart.specs.Reading.{ReadSaid}
+use Rattle.chart.specs.Reading.{ReadSaid, outlined}
 use Rattle.checker.specs.Checker.{CheckedSaid}
 use Rattle.totals.specs.Totals.{TotalsSaid}
-use Rattle.fields.specs.declared.NodeRead.TheVariants.{Node, NoNode}
-use Rattle.fields.specs.declared.NodeRead.TheVariants.{Refused as NodeRefused}
 use Rattle.fields.specs.Fields.{NodeSaid, BlocksSaid, field_numbers}
 use Rattle.writer.specs.Taken.{heading_of}
 use Rattle.writer.specs.Writer.{WroteSaid}
@@ -36,13 +34,13 @@ empty_told = refl
 unknown_told : header_numbers (sample Unknown) ≡ 5 ∷ 3 ∷ 2 ∷ 0 ∷ 9 ∷ 7 ∷ []
 unknown_told = refl
 
-header-told : header_told (Accepted (sample Empty) 3) (places 8) ≡ 5 ∷ 3 ∷ 2 ∷ 1 ∷ 9 ∷ 7 ∷ 15 ∷ 16 ∷ []
+header-told : header_told (outlined (sample Empty) 3) (places 8) ≡ 5 ∷ 3 ∷ 2 ∷ 1 ∷ 9 ∷ 7 ∷ 15 ∷ 16 ∷ []
 header-told = refl
 
-header_whole_told : (header : Header) (blocks : ℕ) (lent : List ℕ) → header_told (Accepted header blocks) lent ≡ written (header_numbers header) lent
+header_whole_told : (header : Header) (blocks : ℕ) (lent : List ℕ) → header_told (outlined header blocks) lent ≡ written (header_numbers header) lent
 header_whole_told header blocks lent = refl
 
-no_header_told : (refusal : Refusal) (lent : List ℕ) → header_told (Refused refusal) lent ≡ lent
+no_header_told : (refusal : Refusal) (lent : List ℕ) → header_told (Err refusal) lent ≡ lent
 no_header_told refusal lent = refl
 
 read_told : (said : ReadSaid) → read_numbers said ≡ said.number ∷ said.place ∷ said.blocks ∷ []
@@ -77,16 +75,16 @@ heading_whole line sets ways start nodes entry = refl
 fields_whole : (fields : RecordFields) → field_numbers fields ≡ fields.kind ∷ fields.address ∷ fields.size ∷ fields.outs ∷ fields.first ∷ fields.second ∷ []
 fields_whole fields = refl
 
-fields_told_whole : fields_told (Node (record { kind = 1; address = 2; outs = 4; first = 5; second = 6; size = 3 })) (places 8) ≡ 1 ∷ 2 ∷ 3 ∷ 4 ∷ 5 ∷ 6 ∷ 15 ∷ 16 ∷ []
+fields_told_whole : fields_told (Ok (Some (record { kind = 1; address = 2; outs = 4; first = 5; second = 6; size = 3 }))) (places 8) ≡ 1 ∷ 2 ∷ 3 ∷ 4 ∷ 5 ∷ 6 ∷ 15 ∷ 16 ∷ []
 fields_told_whole = refl
 
-node_fields_told : (fields : RecordFields) (lent : List ℕ) → fields_told (Node fields) lent ≡ written (field_numbers fields) lent
+node_fields_told : (fields : RecordFields) (lent : List ℕ) → fields_told (Ok (Some fields)) lent ≡ written (field_numbers fields) lent
 node_fields_told fields lent = refl
 
-no_node_told : (lent : List ℕ) → fields_told NoNode lent ≡ lent
+no_node_told : (lent : List ℕ) → fields_told (Ok None) lent ≡ lent
 no_node_told lent = refl
 
-no_fields_told : (refusal : Refusal) (lent : List ℕ) → fields_told (NodeRefused refusal) lent ≡ lent
+no_fields_told : (refusal : Refusal) (lent : List ℕ) → fields_told (Err refusal) lent ≡ lent
 no_fields_told refusal lent = refl
 
 -- A kind above 2 is none of the three, and the window from 1 to 0 that it gives is refused.

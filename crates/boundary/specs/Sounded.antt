@@ -2,30 +2,25 @@
 -- no two can change places; lists with and without room for them, where one place fewer than an answer has is too few, and just as many are
 -- enough; and what is left of all that is lent, whatever it held. Nothing here is a rule of the tool: it is what rules 11.18, 11.24, 12.8, 12.9,
 -- 17.6 and 18.10 come to.
-use Rattle.std.specs.Prelude.{ℕ, ◌+◌, ◌≤◌, ◌<◌, true, false, ◌≡◌, List, [], ◌∷◌, length, Float}
+use Rattle.std.specs.Prelude.{ℕ, ◌+◌, ◌≤◌, ◌<◌, true, false, ◌≡◌, List, [], ◌∷◌, length, Float, Err, Ok, Some, None}
 use Rattle.lists.specs.Lists.{list_of, written}
 use Rattle.chart.specs.declared.headers.Start.{Start}
 use Rattle.chart.specs.declared.headers.Start.TheVariants.{Unknown, Empty}
 use Rattle.chart.specs.declared.headers.Header.{Header}
-use Rattle.chart.specs.declared.readings.Verdict.TheVariants.{Accepted, Refused}
 use Rattle.refusals.specs.declared.Refusal.{Refusal}
 use Rattle.chart.specs.declared.records.RecordFields.{RecordFields}
 use Rattle.chart.specs.Header.{header_numbers, start_code}
-use Rattle.chart.specs.Reading.{ReadSaid}
+use Rattle.chart.specs.Reading.{ReadSaid, outlined}
 use Rattle.analysis.specs.Analysis.{Buffers, AnalysedSaid}
 use Rattle.checker.specs.Checker.{CheckedSaid}
 use Rattle.totals.specs.Totals.{TotalsSaid}
-use Rattle.fields.specs.declared.NodeRead.TheVariants.{Node, NoNode}
-use Rattle.fields.specs.declared.NodeRead.TheVariants.{Refused as NodeRefused}
 use Rattle.fields.specs.Fields.{NodeSaid, BlocksSaid, field_numbers}
 use Rattle.writer.specs.Taken.{heading_of}
 use Rattle.writer.specs.Writer.{WroteSaid}
 use Rattle.clock.specs.declared.ClockSheet.{ClockSheet}
-use Rattle.clock.specs.declared.Deadline.TheVariants.{None, Latest, Window}
+use Rattle.clock.specs.declared.Deadline.TheVariants.{None as NoLimit, Latest, Window}
 use Rattle.clock.specs.Clock.{zero_time, impossible}
-use Rattle.deadline.specs.declared.Judged.TheVariants.{Met, NotMet}
-use Rattle.deadline.specs.declared.Judged.TheVariants.{Refused as JudgedRefused}
-use Rattle.deadline.specs.Deadline.{JudgedSaid}
+use Rattle.deadline.specs.Deadline.{JudgedSaid, judged_with}
 use Rattle.facts.specs.declared.Side.TheVariants.{High, Low}
 use Rattle.certificate.specs.Bound.{BoundSaid}
 use Rattle.boundary.specs.Certifying.{side_given, denominator_given, bound_numbers, bound_short}
@@ -45,9 +40,9 @@ pub record ToldSounded : Type 0 where
   pub empty_told : header_numbers (sample Empty) ≡ 5 ∷ 3 ∷ 2 ∷ 1 ∷ 9 ∷ 7 ∷ []
   pub unknown_told : header_numbers (sample Unknown) ≡ 5 ∷ 3 ∷ 2 ∷ 0 ∷ 9 ∷ 7 ∷ []
   -- a header goes over the start of its list, which keeps its tail; after a refusal the list stays as it is
-  pub header-told : header_told (Accepted (sample Empty) 3) (places 8) ≡ 5 ∷ 3 ∷ 2 ∷ 1 ∷ 9 ∷ 7 ∷ 15 ∷ 16 ∷ []
-  pub header_whole_told : (header : Header) (blocks : ℕ) (lent : List ℕ) → header_told (Accepted header blocks) lent ≡ written (header_numbers header) lent
-  pub no_header_told : (refusal : Refusal) (lent : List ℕ) → header_told (Refused refusal) lent ≡ lent
+  pub header-told : header_told (outlined (sample Empty) 3) (places 8) ≡ 5 ∷ 3 ∷ 2 ∷ 1 ∷ 9 ∷ 7 ∷ 15 ∷ 16 ∷ []
+  pub header_whole_told : (header : Header) (blocks : ℕ) (lent : List ℕ) → header_told (outlined header blocks) lent ≡ written (header_numbers header) lent
+  pub no_header_told : (refusal : Refusal) (lent : List ℕ) → header_told (Err refusal) lent ≡ lent
   pub read_told : (said : ReadSaid) → read_numbers said ≡ said.number ∷ said.place ∷ said.blocks ∷ []
   pub analysed_told : (said : AnalysedSaid) → analysed_numbers said ≡ said.number ∷ said.place ∷ said.passes ∷ said.blocks ∷ []
   pub checked_told : (said : CheckedSaid) → checked_numbers said ≡ said.number ∷ said.place ∷ said.yes ∷ []
@@ -62,21 +57,21 @@ pub record ToldSounded : Type 0 where
       → heading_given line sets ways start nodes entry ≡ record { line = line; sets = sets; ways = ways; start = start; nodes = nodes; entry = entry }
   -- a node's six fields go over the start of their list, and where there is no node or no chart the list stays as it is
   pub fields_whole : (fields : RecordFields) → field_numbers fields ≡ fields.kind ∷ fields.address ∷ fields.size ∷ fields.outs ∷ fields.first ∷ fields.second ∷ []
-  pub fields_told_whole : fields_told (Node (record { kind = 1; address = 2; outs = 4; first = 5; second = 6; size = 3 })) (places 8) ≡ 1 ∷ 2 ∷ 3 ∷ 4 ∷ 5 ∷ 6 ∷ 15 ∷ 16 ∷ []
-  pub node_fields_told : (fields : RecordFields) (lent : List ℕ) → fields_told (Node fields) lent ≡ written (field_numbers fields) lent
-  pub no_node_told : (lent : List ℕ) → fields_told NoNode lent ≡ lent
-  pub no_fields_told : (refusal : Refusal) (lent : List ℕ) → fields_told (NodeRefused refusal) lent ≡ lent
+  pub fields_told_whole : fields_told (Ok (Some (record { kind = 1; address = 2; outs = 4; first = 5; second = 6; size = 3 }))) (places 8) ≡ 1 ∷ 2 ∷ 3 ∷ 4 ∷ 5 ∷ 6 ∷ 15 ∷ 16 ∷ []
+  pub node_fields_told : (fields : RecordFields) (lent : List ℕ) → fields_told (Ok (Some fields)) lent ≡ written (field_numbers fields) lent
+  pub no_node_told : (lent : List ℕ) → fields_told (Ok None) lent ≡ lent
+  pub no_fields_told : (refusal : Refusal) (lent : List ℕ) → fields_told (Err refusal) lent ≡ lent
   -- a sheet's two numbers, and a deadline by its kind: what a kind has not is not looked at, and another kind is refused whatever the sheet
   pub sheet-given : (period overhead : Float) → sheet_given period overhead ≡ record { period = period; overhead = overhead }
-  pub none_given : (earliest latest : Float) → deadline_given 0 earliest latest ≡ None
+  pub none_given : (earliest latest : Float) → deadline_given 0 earliest latest ≡ NoLimit
   pub latest_given : (earliest latest : Float) → deadline_given 1 earliest latest ≡ Latest latest
   pub window_given : (earliest latest : Float) → deadline_given 2 earliest latest ≡ Window earliest latest
   pub other_given : (kind : ℕ) (earliest latest : Float) (sheet : ClockSheet) → 2 < kind → impossible sheet (deadline_given kind earliest latest) ≡ true
   pub judged_told : (said : JudgedSaid) → judged_numbers said ≡ said.number ∷ said.place ∷ said.met ∷ []
   -- the two figures go over the start of their list, the low one first, and are 0 after a refusal
-  pub met_figures_told : (low high : Float) (lent : List Float) → figures_told (Met low high) lent ≡ written (low ∷ high ∷ []) lent
-  pub not_met_figures_told : (low high : Float) (lent : List Float) → figures_told (NotMet low high) lent ≡ written (low ∷ high ∷ []) lent
-  pub no_figures_told : (refusal : Refusal) (lent : List Float) → figures_told (JudgedRefused refusal) lent ≡ written (zero_time ∷ zero_time ∷ []) lent
+  pub met_figures_told : (low high : Float) (lent : List Float) → figures_told (judged_with true low high) lent ≡ written (low ∷ high ∷ []) lent
+  pub not_met_figures_told : (low high : Float) (lent : List Float) → figures_told (judged_with false low high) lent ≡ written (low ∷ high ∷ []) lent
+  pub no_figures_told : (refusal : Refusal) (lent : List Float) → figures_told (Err refusal) lent ≡ written (zero_time ∷ zero_time ∷ []) lent
   -- a side by its number, and the denominator; beside a number of no side the denominator is 0, which is out of its range
   pub high_given : side_given 0 ≡ High
   pub low_given : side_given 1 ≡ Low

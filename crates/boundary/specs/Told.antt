@@ -1,24 +1,21 @@
 -- What a caller in another language is told: numbers at the start of a lent list. Rules 12.8 and 12.9, and rule 11.11 of the lists for the
 -- answer, which goes before all other refusals; and rule 15.3, of the writer's six numbers. The checker's yes is told and not returned, and the
 -- reader's blocks are not told: listing them is a function of its own. include/veilbuzz.h names the places in C.
-use Rattle.std.specs.Prelude.{ℕ, Bool, cond, ◌||◌, List, [], ◌∷◌, length, ltb}
+use Rattle.std.specs.Prelude.{ℕ, Bool, cond, ◌||◌, List, [], ◌∷◌, length, ltb, replicate, Err, None, Ok, Option, Result, Some}
 use Rattle.lists.specs.Lists.{written}
 use Rattle.refusals.specs.declared.Refusal.{Refusal}
 use Rattle.refusals.specs.declared.Refusal.TheVariants.{ShortBuffer}
 use Rattle.refusals.specs.Refusals.{number_of, place_of}
 use Rattle.chart.specs.Header.{header_numbers}
-use Rattle.chart.specs.declared.readings.Verdict.{Verdict}
-use Rattle.chart.specs.declared.readings.Verdict.TheVariants.{Accepted, Refused}
 use Rattle.chart.specs.Reading.{ReadSaid}
 use Rattle.analysis.specs.Analysis.{AnalysedSaid}
 use Rattle.checker.specs.Checker.{CheckedSaid}
 use Rattle.totals.specs.Totals.{TotalsSaid}
-use Rattle.fields.specs.declared.NodeRead.{NodeRead}
-use Rattle.fields.specs.declared.NodeRead.TheVariants.{Node, NoNode}
-use Rattle.fields.specs.declared.NodeRead.TheVariants.{Refused as NodeRefused}
 use Rattle.fields.specs.Fields.{NodeSaid, BlocksSaid, field_numbers}
 use Rattle.writer.specs.declared.heading.Heading.{Heading}
 use Rattle.writer.specs.Writer.{WroteSaid}
+use Rattle.chart.specs.declared.records.RecordFields.{RecordFields}
+use Rattle.chart.specs.declared.readings.Outline.{Outline}
 
 -- Rules 11.11 and 12.9: a lent list has fewer places than there are numbers to tell in it.
 abbrev pub short : {X : Type 0} → List X → ℕ → Bool
@@ -36,9 +33,9 @@ left short before after = cond short before after
 abbrev pub told : Bool → List ℕ → List ℕ → List ℕ
 told short numbers lent = left short lent (written numbers lent)
 
--- Rules 12.8 and 12.9: a refusal's numbers, where an answer has three.
-abbrev pub refused_numbers : Refusal → List ℕ
-refused_numbers refusal = number_of refusal ∷ place_of refusal ∷ 0 ∷ []
+-- Rules 12.8 and 12.9: a refusal's numbers, where an answer has so many.
+abbrev pub refused_numbers : ℕ → Refusal → List ℕ
+refused_numbers places refusal = written (number_of refusal ∷ place_of refusal ∷ []) (replicate places 0)
 
 -- Rule 12.9: the reader's answer, number and place before B.
 abbrev pub read_numbers : ReadSaid → List ℕ
@@ -79,15 +76,15 @@ heading_given line sets ways start nodes entry =
     }
 
 -- Rule 12.9: a lent list with the fields of a node that there is told in it, or as it was.
-abbrev pub fields_told : NodeRead → List ℕ → List ℕ
-fields_told (Node fields) lent = written (field_numbers fields) lent
-fields_told NoNode lent = lent
-fields_told (NodeRefused refusal) lent = lent
+abbrev pub fields_told : Result (Option RecordFields) Refusal → List ℕ → List ℕ
+fields_told (Ok (Some fields)) lent = written (field_numbers fields) lent
+fields_told (Ok None) lent = lent
+fields_told (Err refusal) lent = lent
 
 -- Rule 12.9: a lent list with an accepted chart's header told in it, or as it was.
-abbrev pub header_told : Verdict → List ℕ → List ℕ
-header_told (Accepted header blocks) lent = written (header_numbers header) lent
-header_told (Refused refusal) lent = lent
+abbrev pub header_told : Result Outline Refusal → List ℕ → List ℕ
+header_told (Ok outline) lent = written (header_numbers outline.header) lent
+header_told (Err refusal) lent = lent
 
 -- Rule 12.9: whether a function's lists are too short for its answer. The reader has two, one for the header and one for the rest.
 abbrev pub read_short : List ℕ → List ℕ → Bool

@@ -4,27 +4,21 @@ ghost use Rattle.std.specs.Prelude.{◌≡◌};
 ghost use Rattle.analysis.specs.Analysis.{entry_buffers, exit_buffers, analysed_says, analysed, analyse_says};
 ghost use Rattle.boundary.specs.Told.{analysed_short, returned, left, told, analysed_numbers};
 
-use crate::telling::{no_room, tell};
-use analysis::Analysed;
+use crate::telling::{no_room, refused, tell};
+use analysis::{SettledAfter, Unanalysed};
 use refusals::Refusal;
 
 // The numbers of the analysis's answer.
-fn analysed_numbers(answer: Analysed) -> [u64; 4]
+fn analysed_numbers(answer: Result<SettledAfter, Unanalysed>) -> [u64; 4]
     ensures { result ≡ analysed_numbers (analysed_says answer) }
 {
     match answer {
-        Analysed::Settled { passes, blocks } => [0, 0, passes as u64, blocks as u64],
-        Analysed::Unsettled { allowance, blocks } => {
-            let refusal = Refusal::Unsettled;
-            let number = refusal.number();
-            let place = refusal.place() as u64;
+        Ok(SettledAfter { passes, blocks }) => [0, 0, passes as u64, blocks as u64],
+        Err(Unanalysed::Unsettled { allowance, blocks }) => {
+            let [number, place]: [u64; 2] = refused(Refusal::Unsettled);
             [number, place, allowance as u64, blocks as u64]
         }
-        Analysed::Refused(refusal) => {
-            let number = refusal.number();
-            let place = refusal.place() as u64;
-            [number, place, 0, 0]
-        }
+        Err(Unanalysed::Refused(refusal)) => refused(refusal),
     }
 }
 

@@ -8,8 +8,8 @@ ghost use Rattle.boundary.specs.Told.{returned, told};
 ghost use Rattle.boundary.specs.Certifying.{side_given, denominator_given, bound_short, bound_numbers};
 
 use crate::telling::{no_room, refused, tell};
-use certificate::Bounded;
 use facts::Side;
+use refusals::Refusal;
 
 // The side of a number.
 fn side_given(side: u64) -> Side
@@ -32,12 +32,12 @@ fn denominator_given(side: u64, denominator: u64) -> u64
 }
 
 // The numbers of the answer.
-fn bound_numbers(answer: Bounded) -> [u64; 3]
+fn bound_numbers(answer: Result<u64, Refusal>) -> [u64; 3]
     ensures { result ≡ bound_numbers (bounded_say answer) }
 {
     match answer {
-        Bounded::At(bound) => [0, 0, bound],
-        Bounded::Refused(refusal) => refused(refusal),
+        Ok(bound) => [0, 0, bound],
+        Err(refusal) => refused(refusal),
     }
 }
 

@@ -6,16 +6,15 @@ ghost use Rattle.checker.specs.Checker.{checked_says, check_says};
 ghost use Rattle.boundary.specs.Told.{checked_short, returned, told, checked_numbers};
 
 use crate::telling::{no_room, refused, tell};
-use checker::Checked;
+use refusals::Refusal;
 
 // The numbers of the checker's answer.
-fn checked_numbers(answer: Checked) -> [u64; 3]
+fn checked_numbers(answer: Result<bool, Refusal>) -> [u64; 3]
     ensures { result ≡ checked_numbers (checked_says answer) }
 {
     match answer {
-        Checked::Yes => [0, 0, 1],
-        Checked::No => [0, 0, 0],
-        Checked::Refused(refusal) => refused(refusal),
+        Ok(passes) => [0, 0, passes as u64],
+        Err(refusal) => refused(refusal),
     }
 }
 

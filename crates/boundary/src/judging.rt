@@ -11,6 +11,7 @@ ghost use Rattle.boundary.specs.Timed.{sheet_given, deadline_given, judged_short
 use crate::telling::{no_room, refused, tell};
 use clock::{ClockSheet, Deadline};
 use deadline::Judged;
+use refusals::Refusal;
 
 // The deadline of a kind, with these limits. A kind that there is not makes a window the wrong way round, which is refused in its turn.
 fn deadline_given(kind: u64, earliest: f64, latest: f64) -> Deadline
@@ -31,13 +32,12 @@ fn deadline_given(kind: u64, earliest: f64, latest: f64) -> Deadline
 }
 
 // The numbers of the answer.
-fn judged_numbers(answer: Judged) -> [u64; 3]
+fn judged_numbers(answer: Result<Judged, Refusal>) -> [u64; 3]
     ensures { result ≡ judged_numbers (judged_say answer) }
 {
     match answer {
-        Judged::Met { low: _, high: _ } => [0, 0, 1],
-        Judged::NotMet { low: _, high: _ } => [0, 0, 0],
-        Judged::Refused(refusal) => refused(refusal),
+        Ok(judged) => [0, 0, judged.met as u64],
+        Err(refusal) => refused(refusal),
     }
 }
 
@@ -51,14 +51,13 @@ fn tell_two(low: f64, high: f64, lent: &mut [f64])
 }
 
 // Tells the two figures of an answer, which are 0 after a refusal.
-fn tell_figures(answer: Judged, lent: &mut [f64])
+fn tell_figures(answer: Result<Judged, Refusal>, lent: &mut [f64])
     requires { 2 ≤ length lent.old }
     ensures { lent.new ≡ figures_told answer lent.old }
 {
     match answer {
-        Judged::Met { low, high } => tell_two(low, high, lent),
-        Judged::NotMet { low, high } => tell_two(low, high, lent),
-        Judged::Refused(_) => tell_two(0.0, 0.0, lent),
+        Ok(judged) => tell_two(judged.low, judged.high, lent),
+        Err(_) => tell_two(0.0, 0.0, lent),
     }
 }
 

@@ -5,48 +5,45 @@ ghost use Rattle.fields.specs.Fields.{node_read, node_says, read_node_says, bloc
 ghost use Rattle.boundary.specs.Told.{node_short, blocks_short, returned, left, told, node_numbers, fields_told, blocks_numbers};
 
 use crate::telling::{no_room, refused, tell};
-use fields::{BlocksRead, NodeRead};
+use chart::RecordFields;
+use refusals::Refusal;
 
 // The numbers of the answer for a node.
-fn node_numbers(answer: NodeRead) -> [u64; 3]
+fn node_numbers(answer: Result<Option<RecordFields>, Refusal>) -> [u64; 3]
     ensures { result ≡ node_numbers (node_says answer) }
 {
     match answer {
-        NodeRead::Node(_) => [0, 0, 1],
-        NodeRead::NoNode => [0, 0, 0],
-        NodeRead::Refused(refusal) => refused(refusal),
+        Ok(Some(_)) => [0, 0, 1],
+        Ok(None) => [0, 0, 0],
+        Err(refusal) => refused(refusal),
     }
 }
 
 // The numbers of the answer for the blocks.
-fn blocks_numbers(answer: BlocksRead) -> [u64; 3]
+fn blocks_numbers(answer: Result<usize, Refusal>) -> [u64; 3]
     ensures { result ≡ blocks_numbers (blocks_say answer) }
 {
     match answer {
-        BlocksRead::Blocks(count) => [0, 0, count as u64],
-        BlocksRead::Refused(refusal) => refused(refusal),
+        Ok(count) => [0, 0, count as u64],
+        Err(refusal) => refused(refusal),
     }
 }
 
 // Tells the fields of a node that there is in a lent list; else the list stays as it was.
-fn tell_fields(answer: NodeRead, lent: &mut [u64])
+fn tell_fields(answer: Result<Option<RecordFields>, Refusal>, lent: &mut [u64])
     requires { 6 ≤ length lent.old }
     ensures { lent.new ≡ fields_told answer lent.old }
 {
-    match answer {
-        NodeRead::Node(fields) => {
-            let numbers = [
-                fields.kind,
-                fields.address,
-                fields.size,
-                fields.outs,
-                fields.first,
-                fields.second,
-            ];
-            tell(&numbers, lent);
-        }
-        NodeRead::NoNode => {}
-        NodeRead::Refused(_) => {}
+    if let Ok(Some(fields)) = answer {
+        let numbers = [
+            fields.kind,
+            fields.address,
+            fields.size,
+            fields.outs,
+            fields.first,
+            fields.second,
+        ];
+        tell(&numbers, lent);
     }
 }
 

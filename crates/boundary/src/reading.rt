@@ -5,26 +5,28 @@ ghost use Rattle.chart.specs.Reading.{reading, verdict_says, read_says};
 ghost use Rattle.boundary.specs.Told.{returned, left, told, read_numbers, header_told, read_short};
 
 use crate::telling::{no_room, refused, tell};
-use chart::Verdict;
+use chart::Outline;
+use refusals::Refusal;
 
 // The numbers of the reader's answer.
-fn verdict_numbers(verdict: Verdict) -> [u64; 3]
+fn verdict_numbers(verdict: Result<Outline, Refusal>) -> [u64; 3]
     ensures { result ≡ read_numbers (verdict_says verdict) }
 {
     match verdict {
-        Verdict::Accepted(_, blocks) => [0, 0, blocks as u64],
-        Verdict::Refused(refusal) => refused(refusal),
+        Ok(outline) => [0, 0, outline.blocks as u64],
+        Err(refusal) => refused(refusal),
     }
 }
 
 // Tells the header of an accepted chart in a lent list; after a refusal the list stays as it was.
-fn tell_header(verdict: Verdict, lent: &mut [u64])
+fn tell_header(verdict: Result<Outline, Refusal>, lent: &mut [u64])
     requires { 6 ≤ length lent.old }
     ensures { lent.new ≡ header_told verdict lent.old }
 {
-    let Verdict::Accepted(header, _) = verdict else {
+    let Ok(outline) = verdict else {
         return;
     };
+    let header = outline.header;
     let geometry = header.geometry;
     let start = header.start;
     let line = geometry.line as u64;

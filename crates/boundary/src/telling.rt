@@ -15,13 +15,15 @@ pub(crate) fn no_room() -> u64
     refusal.number()
 }
 
-// The three numbers of a refusal: its number, its place, and 0 for what there is not (rule 12.8).
-pub(crate) fn refused(refusal: Refusal) -> [u64; 3]
-    ensures { result ≡ refused_numbers refusal }
+// The numbers of a refusal in so many places: its number, its place, and 0 for what there is not (rule 12.8).
+pub(crate) fn refused<const N: usize>(refusal: Refusal) -> [u64; N]
+    requires { 2 ≤ N }
+    ensures { result ≡ refused_numbers N refusal }
 {
-    let number = refusal.number();
-    let place = refusal.place() as u64;
-    [number, place, 0]
+    let mut numbers = [0; N];
+    numbers[0] = refusal.number();
+    numbers[1] = refusal.place() as u64;
+    numbers
 }
 
 // The numbers at the start of a lent list.
@@ -29,8 +31,5 @@ pub(crate) fn tell(numbers: &[u64], lent: &mut [u64])
     requires { length numbers.now ≤ length lent.old }
     ensures { lent.new ≡ written numbers.now lent.old }
 {
-    let count = numbers.len();
-    for k in 0..count {
-        lent[k] = numbers[k];
-    }
+    lent[..numbers.len()].copy_from_slice(numbers);
 }

@@ -4,20 +4,17 @@ ghost use Rattle.tables.specs.Contract.{entry_table};
 ghost use Rattle.totals.specs.Totals.{entry_figures, totals_say, total_says};
 ghost use Rattle.boundary.specs.Told.{totals_short, returned, told, totals_numbers};
 
-use crate::telling::{no_room, tell};
+use crate::telling::{no_room, refused, tell};
+use refusals::Refusal;
 use totals::Totals;
 
 // The numbers of the totals' answer.
-fn totals_numbers(answer: Totals) -> [u64; 4]
+fn totals_numbers(answer: Result<Totals, Refusal>) -> [u64; 4]
     ensures { result ≡ totals_numbers (totals_say answer) }
 {
     match answer {
-        Totals::Between { low, high } => [0, 0, low, high],
-        Totals::Refused(refusal) => {
-            let number = refusal.number();
-            let place = refusal.place() as u64;
-            [number, place, 0, 0]
-        }
+        Ok(Totals { low, high }) => [0, 0, low, high],
+        Err(refusal) => refused(refusal),
     }
 }
 

@@ -6,15 +6,16 @@ ghost use Rattle.writer.specs.Contract.{entry_lists};
 ghost use Rattle.boundary.specs.Told.{wrote_short, returned, left, told, wrote_numbers, heading_given};
 
 use crate::telling::{no_room, refused, tell};
-use writer::{Heading, Wrote};
+use refusals::Refusal;
+use writer::Heading;
 
 // The numbers of the writer's answer.
-fn wrote_numbers(answer: Wrote) -> [u64; 3]
+fn wrote_numbers(answer: Result<usize, Refusal>) -> [u64; 3]
     ensures { result ≡ wrote_numbers (wrote_says answer) }
 {
     match answer {
-        Wrote::Bytes(count) => [0, 0, count as u64],
-        Wrote::Refused(refusal) => refused(refusal),
+        Ok(count) => [0, 0, count as u64],
+        Err(refusal) => refused(refusal),
     }
 }
 

@@ -1,5 +1,6 @@
 -- What is answered for a table that passes, and for any bytes: from the tests as they are made, and the bound, to `bounded_by` and `bounded`. And the tests of
 -- lengths, which multiply nothing.
+use Rattle.std.specs.Prelude.{Err, Ok}
 use Prim.Native.Nat.{ℕ, ◌*◌, ◌/◌, ◌%◌, ◌<◌}
 use mathlib.Core.Bool.{Bool, true, false, ◌&&◌}
 use mathlib.Core.List.{List}
@@ -17,10 +18,8 @@ use Rattle.ages.specs.Plan.{Plan}
 use Rattle.plan.specs.Listed.{plan_in}
 use Rattle.drawing.specs.Drawing.{Draws}
 use Rattle.tables.specs.Lent.{Lent}
-use Rattle.checker.specs.declared.Checked.TheVariants as checker
 use Rattle.checker.specs.Checker.{checked_by}
 use Rattle.checker.proofs.Tabled.{short-answered, no-answered, yes-answered}
-use Rattle.certificate.specs.declared.Bounded.TheVariants.{At, Refused}
 use Rattle.certificate.specs.Bound.{Question, side_bound, bound_of, failing_at, question_cases, bounded_by, bounded}
 use Rattle.certificate.specs.Inner.{certified_by}
 
@@ -51,11 +50,11 @@ module _ (plan : Plan) (lent : Lent) (question : Question) (nodes : ℕ) (nodes_
     at-plan : (t : Bool) → ltb here nodes ≡ t → ltb (failing_at plan lent question) plan.nodes ≡ t
     at-plan t e = sym (λ i. ltb (is i) (nodes_are i)) ∙ e
 
-    pub fails-answer : ltb here nodes ≡ true → Refused (CertificateFails here) ≡ certified_by plan lent question
-    fails-answer e = rw (at-plan true e) (ap (λ (k : ℕ). Refused (CertificateFails k)) is)
+    pub fails-answer : ltb here nodes ≡ true → Err (CertificateFails here) ≡ certified_by plan lent question
+    fails-answer e = rw (at-plan true e) (ap (λ (k : ℕ). Err (CertificateFails k)) is)
 
-    pub bound-answer : ltb here nodes ≡ false → (bound : ℕ) → bound ≡ side_bound question.side plan lent question → At bound ≡ certified_by plan lent question
-    bound-answer e bound b = rw (at-plan false e) (ap At b)
+    pub bound-answer : ltb here nodes ≡ false → (bound : ℕ) → bound ≡ side_bound question.side plan lent question → Ok bound ≡ certified_by plan lent question
+    bound-answer e bound b = rw (at-plan false e) (ap Ok b)
 
   abbrev dear : Bool
   dear = ltb question.costs.miss question.costs.hit
@@ -69,15 +68,15 @@ module _ (plan : Plan) (lent : Lent) (question : Question) (nodes : ℕ) (nodes_
   at_long : (t : Bool) → long nodes ≡ t → long plan.nodes ≡ t
   at_long t e = sym (ap long nodes_are) ∙ e
 
-  pub costs-answer : dear ≡ true → Refused MissBelowHit ≡ bounded_by plan lent question
+  pub costs-answer : dear ≡ true → Err MissBelowHit ≡ bounded_by plan lent question
   unfolding bounded_by
   costs-answer e = rw e
 
-  pub length-answer : dear ≡ false → long nodes ≡ false → Refused FactsLength ≡ bounded_by plan lent question
+  pub length-answer : dear ≡ false → long nodes ≡ false → Err FactsLength ≡ bounded_by plan lent question
   unfolding bounded_by
   length-answer cheap e = rw (cheap, at_long false e)
 
-  pub range-answer : dear ≡ false → long nodes ≡ true → small ≡ false → Refused NumberOutOfRange ≡ bounded_by plan lent question
+  pub range-answer : dear ≡ false → long nodes ≡ true → small ≡ false → Err NumberOutOfRange ≡ bounded_by plan lent question
   unfolding bounded_by
   range-answer cheap fit e = rw (cheap, at_long true fit, e)
 
@@ -91,14 +90,14 @@ module _ {bytes columns plan : List ℕ} {chart : Chart} (draws : Draws bytes co
   abbrev held : Plan
   held = plan_in columns plan
 
-  pub short-bound : (refusal : Refusal) → checker.Refused refusal ≡ checked_by held lent → Refused refusal ≡ bounded bytes lent question
+  pub short-bound : (refusal : Refusal) → Err refusal ≡ checked_by held lent → Err refusal ≡ bounded bytes lent question
   unfolding bounded
-  short-bound refusal e = rw read (short-answered draws read lent Refused (λ p. question_cases p lent question) (λ p. bound_of p lent question) refusal e)
+  short-bound refusal e = rw read (short-answered draws read lent Err (λ p. question_cases p lent question) (λ p. bound_of p lent question) refusal e)
 
-  pub no_bound : checker.No ≡ checked_by held lent → Refused NotPassing ≡ bounded bytes lent question
+  pub no_bound : (Ok false) ≡ checked_by held lent → Err NotPassing ≡ bounded bytes lent question
   unfolding bounded
-  no_bound e = rw read (no-answered draws read lent Refused (λ p. question_cases p lent question) (λ p. bound_of p lent question) e)
+  no_bound e = rw read (no-answered draws read lent Err (λ p. question_cases p lent question) (λ p. bound_of p lent question) e)
 
-  pub yes-bound : checker.Yes ≡ checked_by held lent → bounded_by held lent question ≡ bounded bytes lent question
+  pub yes-bound : (Ok true) ≡ checked_by held lent → bounded_by held lent question ≡ bounded bytes lent question
   unfolding bounded bounded_by
-  yes-bound e = rw read (yes-answered draws read lent Refused (λ p. question_cases p lent question) (λ p. bound_of p lent question) e)
+  yes-bound e = rw read (yes-answered draws read lent Err (λ p. question_cases p lent question) (λ p. bound_of p lent question) e)

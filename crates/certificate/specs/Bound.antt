@@ -1,7 +1,7 @@
 -- The bound of a certificate for any bytes, lent table, costs and facts, and its refusals. Rules 10.2 to 10.4, 11.0, 11.11, 11.13, 11.15, 11.23 to
 -- 11.25, 12.8, 18.3, 18.4, 18.6 and 18.9; what a certificate comes to over any nodes is said in `facts`, and what a visit costs and which blocks stay in `costs`.
 -- Costs, numbers and denominator are any numbers here; rule 18.8 has the ranges, and 16 bits for the costs are rule 10.1's.
-use Rattle.std.specs.Prelude.{ℕ, ◌+◌, not, List, [], ◌∷◌, ltb}
+use Rattle.std.specs.Prelude.{ℕ, ◌+◌, not, List, [], ◌∷◌, ltb, Err, Ok, Result}
 use Rattle.lists.specs.Choice.{Case, ◌⇒◌, first_case}
 use Rattle.refusals.specs.declared.Refusal.{Refusal}
 use Rattle.refusals.specs.declared.Refusal.TheVariants.{ShortBuffer, NotPassing, MissBelowHit, FactsLength, NumberOutOfRange, CertificateFails}
@@ -17,8 +17,6 @@ use Rattle.ages.specs.Charted.{plan_of}
 use Rattle.tables.specs.Lent.{Lent, table_of, table_short}
 use Rattle.checker.specs.Checker.{marked, passing}
 use Rattle.costs.specs.Costs.{Costs, high_rate, low_rate, visit_cost, classes_at, kept_charge}
-use Rattle.certificate.specs.declared.Bounded.{Bounded}
-use Rattle.certificate.specs.declared.Bounded.TheVariants.{At, Refused}
 
 -- All that is asked of a chart and a table: costs, the side, facts and a certificate.
 pub record Question : Type 0 where
@@ -62,8 +60,8 @@ abbrev pub side_bound : Side → Plan → Lent → Question → ℕ
 side_bound High plan lent question = highest (claim_of plan lent question) + loads_of plan lent question
 side_bound Low plan lent question = lowest (claim_of plan lent question)
 
-abbrev pub bound_of : Plan → Lent → Question → Bounded
-bound_of plan lent question = At (side_bound question.side plan lent question)
+abbrev pub bound_of : Plan → Lent → Question → Result ℕ Refusal
+bound_of plan lent question = Ok (side_bound question.side plan lent question)
 
 -- Rules 11.25 and 18.4: the first node at which the certificate does not hold, or N.
 abbrev pub failing_at : Plan → Lent → Question → ℕ
@@ -79,8 +77,8 @@ question_cases plan lent question =
     ∷ []
 
 -- Rule 18.9, of a table that passes.
-unfoldable pub bounded_by : Plan → Lent → Question → Bounded
-bounded_by plan lent question = first_case Refused (question_cases plan lent question) (bound_of plan lent question)
+unfoldable pub bounded_by : Plan → Lent → Question → Result ℕ Refusal
+bounded_by plan lent question = first_case Err (question_cases plan lent question) (bound_of plan lent question)
 
 -- Rules 11.11, 11.13, 11.15 and 11.23 to 11.25, in the order of rule 11.0.
 abbrev pub bound_cases : Plan → Lent → Question → List (Case Refusal)
@@ -88,13 +86,13 @@ bound_cases plan lent question =
     (table_short plan lent ⇒ ShortBuffer) ∷ (not (passing plan lent) ⇒ NotPassing) ∷ question_cases plan lent question
 
 -- Rule 18.9, of a chart that was read; refusals 1 to 10 are the reader's.
-abbrev pub bound_read : Lent → Question → Read → Bounded
+abbrev pub bound_read : Lent → Question → Read → Result ℕ Refusal
 bound_read lent question (accepted chart) =
-    first_case Refused (bound_cases (plan_of chart) lent question) (bound_of (plan_of chart) lent question)
-bound_read lent question (refused refusal) = Refused refusal
+    first_case Err (bound_cases (plan_of chart) lent question) (bound_of (plan_of chart) lent question)
+bound_read lent question (refused refusal) = Err refusal
 
 -- Rule 18.9, of any bytes.
-unfoldable pub bounded : List ℕ → Lent → Question → Bounded
+unfoldable pub bounded : List ℕ → Lent → Question → Result ℕ Refusal
 bounded bytes lent question = bound_read lent question (read_chart bytes)
 
 -- The answer in numbers: number and place, both 0 for no refusal, then the bound.
@@ -104,9 +102,9 @@ pub record BoundSaid : Type 0 where
   pub bound : ℕ
 
 -- Rules 12.8 and 18.9: the bound, or a refusal's number and place.
-abbrev pub bounded_say : Bounded → BoundSaid
-bounded_say (At bound) = record { number = 0; place = 0; bound = bound }
-bounded_say (Refused refusal) = record { number = number_of refusal; place = place_of refusal; bound = 0 }
+abbrev pub bounded_say : Result ℕ Refusal → BoundSaid
+bounded_say (Ok bound) = record { number = 0; place = 0; bound = bound }
+bounded_say (Err refusal) = record { number = number_of refusal; place = place_of refusal; bound = 0 }
 
 -- The same of any bytes.
 abbrev pub bound_says : List ℕ → Lent → Question → BoundSaid

@@ -1,15 +1,15 @@
 -- What the functions promise one another: a claim by a plan's list and the classes of all nodes, and what has to be there for it. Nothing here is a rule
 -- of the tool: `facts` and `Bound` have rules 18.5, 18.6 and 18.9, which it says by lists, and laws lead there.
-use Rattle.std.specs.Prelude.{ℕ, zero, suc, ◌+◌, ◌-◌, ◌*◌, ◌/◌, ◌^◌, ◌≤◌, ◌<◌, Bool, true, not, cond, ◌&&◌, List, [], ◌≡◌, eqb, ltb, ℤ, pos, get_or, length}
-use Rattle.lists.specs.Slices.{Passed, Slice}
+use Rattle.std.specs.Prelude.{ℕ, zero, suc, ◌+◌, ◌-◌, ◌*◌, ◌/◌, ◌^◌, ◌≤◌, ◌<◌, Bool, true, not, cond, ◌&&◌, List, [], ◌≡◌, eqb, ltb, ℤ, pos, get_or, length, Err, Result}
+use Rattle.lists.specs.Slices.{Passed}
 use Rattle.refusals.specs.declared.Refusal.TheVariants.{CertificateFails}
 use Rattle.chart.specs.Geometry.{most_touches}
 use Rattle.chart.specs.Record.{Leads, arrows_of}
 use Rattle.facts.specs.declared.Side.{Side}
 use Rattle.facts.specs.declared.Side.TheVariants.{High, Low}
-use Rattle.facts.specs.declared.comparing.Parts.{Parts}
+use Rattle.facts.specs.declared.parts.Parts.{Parts}
 use Rattle.facts.specs.Parts.{above, below}
-use Rattle.facts.specs.Slices.{PassedWholes, Wholes}
+use Rattle.facts.specs.Slices.{PassedWholes}
 use Rattle.facts.specs.Facts.{Facts, openings}
 use Rattle.facts.specs.Certificate.{Claim, most_denominator, most_coefficient, most_potential, all_within, multipliers_fit, gain, loss, rise, fall}
 use Rattle.facts.specs.Inner.{parts_weighed, higher_by}
@@ -20,9 +20,8 @@ use Rattle.totals.specs.declared.sums.Tariff.{Tariff}
 use Rattle.totals.specs.Inner.{costs_of, classes_cost}
 use Rattle.totals.specs.Charged.{charged_blocks}
 use Rattle.certificate.specs.declared.visiting.Price.{Price}
-use Rattle.certificate.specs.declared.Bounded.{Bounded}
-use Rattle.certificate.specs.declared.Bounded.TheVariants.{Refused}
 use Rattle.certificate.specs.Bound.{Question, asked, side_rate, failing_at, bound_of}
+use Rattle.refusals.specs.declared.Refusal.{Refusal}
 
 -- The lists that a certificate is held to, at one place: the classes of all nodes, coefficients, multipliers and potentials.
 pub record Lists : Type 0 where
@@ -31,14 +30,10 @@ pub record Lists : Type 0 where
   pub multipliers : List ℤ
   pub potentials : List ℤ
 
--- In a `requires`, and in an `ensures`.
+-- The same of slices.
 abbrev pub passed_lists : Passed → PassedWholes → PassedWholes → PassedWholes → Lists
 passed_lists classes coefficients multipliers potentials =
     record { classes = classes.now; coefficients = coefficients.now; multipliers = multipliers.now; potentials = potentials.now }
-
-abbrev pub entry_lists : Slice → Wholes → Wholes → Wholes → Lists
-entry_lists classes coefficients multipliers potentials =
-    passed_lists classes.entry coefficients.entry multipliers.entry potentials.entry
 
 -- ---- claims by lists
 
@@ -134,9 +129,9 @@ bound_by High denominator top loads = (top.above - top.below) / denominator + lo
 bound_by Low denominator top loads = (top.below - top.above + (denominator - 1)) / denominator
 
 -- Rule 18.9, where lists have their lengths and numbers are in their ranges.
-abbrev pub certified_by : Plan → Lent → Question → Bounded
+abbrev pub certified_by : Plan → Lent → Question → Result ℕ Refusal
 certified_by plan lent question =
-    cond (ltb (failing_at plan lent question) plan.nodes) (Refused (CertificateFails (failing_at plan lent question))) (bound_of plan lent question)
+    cond (ltb (failing_at plan lent question) plan.nodes) (Err (CertificateFails (failing_at plan lent question))) (bound_of plan lent question)
 
 -- The same question, by a price.
 abbrev pub price_asks : Price → Facts → List ℤ → List ℤ → Question

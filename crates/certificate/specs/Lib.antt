@@ -1,2 +1,3 @@
 pub mod Bound
 pub mod Inner
+pub mod Given

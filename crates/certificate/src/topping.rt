@@ -42,10 +42,9 @@ pub(crate) fn top_at(multipliers: &[i64], limits: &[i64], potentials: &[i64], at
     ensures small_left { SmallLeft result }
 {
     let weights = facts::weigh(multipliers, limits, 1, 0);
-    let above = facts::above_at(potentials, at);
-    let below = facts::below_at(potentials, at);
+    let potential = Parts::from(potentials[at]);
     Parts {
-        above: above + weights.above,
-        below: below + weights.below,
+        above: potential.above + weights.above,
+        below: potential.below + weights.below,
     }
 }

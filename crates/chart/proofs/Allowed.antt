@@ -1,4 +1,5 @@
 -- What holds of fields that are allowed: the limits of the shape, and what a record keeps, where its arrows lead and its bytes end.
+use Rattle.std.specs.Prelude.{None, Some}
 use mathlib.Core.Bool.{Bool, true, false, cond}
 use mathlib.Core.List.{[], ◌∷◌}
 use mathlib.Core.Logic.{inl, inr}
@@ -13,7 +14,6 @@ use Rattle.chart.specs.declared.shape.Geometry.{Geometry}
 use Rattle.chart.specs.declared.records.RecordFields.{RecordFields}
 use Rattle.chart.specs.declared.records.Targets.{Targets}
 use Rattle.chart.specs.Geometry.{most_set_bits, most_ways, between, shape_allowed}
-use Rattle.chart.specs.declared.records.Record.TheVariants.{Step, Reference}
 use Rattle.chart.specs.Record.{last_byte, record_keeps, record_of, targets_of, arrows_of, Leads, Ends}
 use Rattle.chart.specs.Refusing.{RecordKeeps}
 use Rattle.chart.proofs.Keeping.{tells-record}
@@ -57,7 +57,7 @@ module _ (nodes : ℕ) (fields : RecordFields) (kept : record_keeps nodes fields
   unfolding record_keeps record_of
   keeps-ends = go (eqb fields.kind 0)
     where
-      go : (t : Bool) → Ends (cond t Step (Reference (record { write = eqb fields.kind 2; address = fields.address; last = last_byte fields })))
+      go : (t : Bool) → Ends (cond t None (Some (record { write = eqb fields.kind 2; address = fields.address; last = last_byte fields })))
       go true = tt
       go false = ltb-true (last_byte fields) (2 ^ 32) (and-true (ltb (last_byte fields) (2 ^ 32)) _ (and-true (leb fields.kind 2) _ kept).1).0
 

@@ -1,4 +1,5 @@
 -- What a reader that accepts says of the chart.
+use Rattle.std.specs.Prelude.{Ok, Err}
 use Prim.Native.Nat.{ℕ, ◌*◌, ◌≤◌, ◌<◌}
 use mathlib.Core.List.{List}
 use mathlib.Core.Path.{◌≡◌, refl, sym, ap, subst, ◌∙◌}
@@ -9,12 +10,12 @@ use Rattle.lists.specs.Lists.{padded}
 use Rattle.lists.proofs.Lists.{length-padded}
 use Rattle.blocks.specs.Listing.{Ascending}
 use Rattle.chart.specs.declared.headers.Header.{Header}
+use Rattle.chart.specs.declared.readings.Outline.{Outline}
 use Rattle.chart.specs.declared.readings.Reading.{Reading}
-use Rattle.chart.specs.declared.readings.Verdict.TheVariants as verdict
 use Rattle.refusals.specs.declared.Refusal.{Refusal}
 use Rattle.chart.specs.Geometry.{most_nodes, most_blocks, most_set_bits}
 use Rattle.chart.specs.Chart.{Chart, Read, accepted, refused, read_chart, records_in, chart_in, block_count}
-use Rattle.chart.specs.Reading.{reading_of, reading}
+use Rattle.chart.specs.Reading.{reading_of, reading, outlined}
 use Rattle.chart.specs.Inner.{AllEnd, AcceptedAs}
 use Rattle.chart.specs.Layout.{chart_length}
 use Rattle.chart.proofs.Accepted.{accepted-chart, accepted-nodes, accepted-sets, accepted-entry, accepted-length, accepted-few, accepted-ascending, accepted-ends}
@@ -23,16 +24,17 @@ module _ (bytes : List ℕ) (answer : Reading) (answered : answer ≡ reading by
   verdict-of : (r : Read) → read_chart bytes ≡ r → answer ≡ reading_of r
   verdict-of r e = answered ∙ ap reading_of e
 
-  pub reader-accepts : (header : Header) (count : ℕ) → answer.verdict ≡ verdict.Accepted header count → AcceptedAs bytes header count answer.blocks
+  pub reader-accepts : (outline : Outline) → answer.verdict ≡ Ok outline → AcceptedAs bytes outline.header outline.blocks answer.blocks
   unfolding reading_of
-  reader-accepts header count q = go (read_chart bytes) refl
+  reader-accepts outline q = go (read_chart bytes) refl
     where
-      go : (r : Read) → read_chart bytes ≡ r → AcceptedAs bytes header count answer.blocks
+      go : (r : Read) → read_chart bytes ≡ r → AcceptedAs bytes outline.header outline.blocks answer.blocks
       go (accepted chart) e =
-          let same : verdict.Accepted header count ≡ verdict.Accepted chart.header (block_count chart) = sym q ∙ ap (λ (a : Reading). a.verdict) (verdict-of (accepted chart) e) in
+          let same : Ok outline ≡ outlined chart.header (block_count chart) = sym q ∙ ap (λ (a : Reading). a.verdict) (verdict-of (accepted chart) e) in
           let is : chart ≡ chart_in bytes = accepted-chart bytes chart e in
-          let header-same : header ≡ chart.header = cc in
-          let count_same : count ≡ block_count chart = cc in
+          let outline-same : outline ≡ record { header = chart.header; blocks = block_count chart } = cc in
+          let header-same : outline.header ≡ chart.header = ap (λ (o : Outline). o.header) outline-same in
+          let count_same : outline.blocks ≡ block_count chart = ap (λ (o : Outline). o.blocks) outline-same in
           record {
             read = e ∙ ap accepted is;
             header_is = header-same ∙ ap (λ (c : Chart). c.header) is;
@@ -40,21 +42,21 @@ module _ (bytes : List ℕ) (answer : Reading) (answered : answer ≡ reading by
             array_is = ap (λ (a : Reading). a.blocks) (verdict-of (accepted chart) e) ∙ ap (λ (c : Chart). padded most_blocks c.blocks) is;
           }
       go (refused refusal) e =
-          let same : verdict.Accepted header count ≡ verdict.Refused refusal = sym q ∙ ap (λ (a : Reading). a.verdict) (verdict-of (refused refusal) e) in
+          let same : Ok outline ≡ Err refusal = sym q ∙ ap (λ (a : Reading). a.verdict) (verdict-of (refused refusal) e) in
           let z : ◌≡◌ {A = ℕ} 0 1 = cc in
           absurd (omega arith)
 
-  pub reader-refuses : (refusal : Refusal) → answer.verdict ≡ verdict.Refused refusal → read_chart bytes ≡ refused refusal
+  pub reader-refuses : (refusal : Refusal) → answer.verdict ≡ Err refusal → read_chart bytes ≡ refused refusal
   unfolding reading_of
   reader-refuses refusal q = go (read_chart bytes) refl
     where
       go : (r : Read) → read_chart bytes ≡ r → read_chart bytes ≡ refused refusal
       go (accepted chart) e =
-          let same : verdict.Refused refusal ≡ verdict.Accepted chart.header (block_count chart) = sym q ∙ ap (λ (a : Reading). a.verdict) (verdict-of (accepted chart) e) in
+          let same : Err refusal ≡ outlined chart.header (block_count chart) = sym q ∙ ap (λ (a : Reading). a.verdict) (verdict-of (accepted chart) e) in
           let z : ◌≡◌ {A = ℕ} 0 1 = cc in
           absurd (omega arith)
       go (refused other) e =
-          let same : verdict.Refused refusal ≡ verdict.Refused other = sym q ∙ ap (λ (a : Reading). a.verdict) (verdict-of (refused other) e) in
+          let same : Err refusal ≡ Err other = sym q ∙ ap (λ (a : Reading). a.verdict) (verdict-of (refused other) e) in
           let d : other ≡ refusal = cc in
           e ∙ ap refused d
 

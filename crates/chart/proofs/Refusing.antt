@@ -1,4 +1,5 @@
 -- The reader's tests tell when each of refusals 1 to 10 applies.
+use Rattle.std.specs.Prelude.{None, Some}
 use Prim.Native.Nat.{ℕ, zero, suc, ◌+◌, ◌*◌, ◌/◌, ◌^◌, ◌≤◌, ◌<◌}
 use mathlib.Core.Bool.{Bool, true, false, cond, not}
 use mathlib.Core.List.{List, [], ◌∷◌, ◌++◌}
@@ -13,7 +14,6 @@ use Rattle.lists.specs.Telling.{Tells, AllTell, Numbered, Answered}
 use Rattle.lists.proofs.Choice.{first-applies, applies-first, none-applies, first-otherwise}
 use Rattle.lists.proofs.Firsts.{first-test, first-fails, first-is}
 use Rattle.blocks.specs.Blocks.{gathered, overfull}
-use Rattle.chart.specs.declared.records.Record.TheVariants.{Step, Reference}
 use Rattle.chart.specs.declared.shape.Geometry.{Geometry}
 use Rattle.refusals.specs.declared.Refusal.{Refusal}
 use Rattle.refusals.specs.declared.Refusal.TheVariants.{TooShort, Edition, CacheShape, StartCode, NodeCount, EntryNode, SpareBits, Length, BrokenRecord, TooManyBlocks, ShortBuffer, Unsettled, NotPassing, BoundsLength, MissBelowHit, FloorAboveCeiling, FloorAtUnmarked, ImpossibleTimes, FactsLength, NumberOutOfRange, CertificateFails}
@@ -65,7 +65,7 @@ record-blocks geometry fields = go (eqb fields.kind 0)
     two upper true = refl
     two upper false = refl
 
-    go : (t : Bool) → blocks_of (touches_of geometry (cond t Step (Reference (record { write = eqb fields.kind 2; address = fields.address; last = last_byte fields }))))
+    go : (t : Bool) → blocks_of (touches_of geometry (cond t None (Some (record { write = eqb fields.kind 2; address = fields.address; last = last_byte fields }))))
         ≡ cond t [] (lower ∷ cond (eqb lower (last_block_said geometry.line fields)) [] (last_block_said geometry.line fields ∷ []))
     go true = refl
     go false =

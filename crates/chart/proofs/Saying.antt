@@ -1,4 +1,5 @@
 -- An accepted chart is the one that its bytes say.
+use Rattle.std.specs.Prelude.{None, Some}
 use Prim.Native.Nat.{ℕ, ◌%◌, ◌^◌, ◌≤◌}
 use mathlib.Core.Bool.{Bool, true, false, cond}
 use mathlib.Core.List.{List, [], ◌∷◌}
@@ -12,7 +13,6 @@ use Rattle.chart.specs.declared.shape.Geometry.{Geometry}
 use Rattle.chart.specs.Geometry.{block_of, set_of}
 use Rattle.chart.specs.Header.{header_of, header_in}
 use Rattle.chart.specs.Record.{last_byte, record_of, targets_of, arrows_of, Touch, touches_of}
-use Rattle.chart.specs.declared.records.Record.TheVariants.{Step, Reference}
 use Rattle.chart.specs.Chart.{Chart, accepted, records_in, blocks_at, chart_in, read_chart}
 use Rattle.chart.proofs.Accepted.{accepted-chart, accepted-lines, accepted-sized}
 use Rattle.chart.proofs.Sizes.{touches-say}
@@ -36,7 +36,7 @@ header-says fields =
 module _ (geometry : Geometry) (fields : RecordFields) (least : 2 ≤ geometry.line) (sized : fields.size ≤ 2) where
   -- What the record touches if its kind is that of a reference or not, and writes or not; and where one with another number of arrows leads.
   abbrev touches_if : Bool → Bool → List Touch
-  touches_if step write = touches_of geometry (cond step Step (Reference (record { write = write; address = fields.address; last = last_byte fields })))
+  touches_if step write = touches_of geometry (cond step None (Some (record { write = write; address = fields.address; last = last_byte fields })))
 
   abbrev leads : ℕ → List ℕ
   leads outs = arrows_of (record { outs = outs; first = fields.first; second = fields.second })

@@ -10,6 +10,7 @@ use Rattle.chart.specs.declared.headers.HeaderFields.{HeaderFields}
 use Rattle.chart.specs.declared.headers.Header.{Header}
 use Rattle.chart.specs.declared.records.RecordFields.{RecordFields}
 use Rattle.chart.specs.declared.records.Node.{Node}
+use Rattle.chart.specs.declared.records.Reference.{Reference}
 use Rattle.refusals.specs.declared.Refusal.{Refusal}
 use Rattle.refusals.specs.declared.Refusal.TheVariants.{BrokenRecord, TooManyBlocks}
 use Rattle.chart.specs.Layout.{record_word}
@@ -20,7 +21,7 @@ use Rattle.chart.specs.Record.{record_fields, record_keeps, record_of, node_of, 
 -- What an accepted chart says.
 pub record Chart : Type 0 where
   pub header : Header
-  pub node : ℕ → Node
+  pub node : ℕ → Node Reference
   pub blocks : List ℕ
 
 -- ---- of a header and the fields of each node's record, wherever they come from
@@ -85,7 +86,7 @@ abbrev pub records_in : List ℕ → ℕ → RecordFields
 records_in bytes n = record_fields (record_word bytes n)
 
 -- Rules 2.1 and 2.2: what they say.
-abbrev pub node_at : List ℕ → ℕ → Node
+abbrev pub node_at : List ℕ → ℕ → Node Reference
 node_at bytes n = node_of (records_in bytes n)
 
 -- The chart that bytes hold, where nothing below refuses them.

@@ -2,15 +2,13 @@
 -- Rules 1.1 to 1.3, 11.1 to 11.8, 12.1, 12.8 and 12.9.
 -- Choices: the tests are of any fields, whether or not a word can hold them; every start code but 0 reads as empty, and those above 1 are
 -- refused before; number and place are 0 where nothing is refused.
-use Rattle.std.specs.Prelude.{ℕ, Bool, not, cond, ◌&&◌, List, [], ◌∷◌, length, ltb, leb, eqb}
+use Rattle.std.specs.Prelude.{◌≡◌, ℕ, Bool, not, cond, ◌&&◌, List, [], ◌∷◌, length, ltb, leb, eqb, Err, Ok, Result}
 use Rattle.lists.specs.Choice.{Case, ◌⇒◌, first_case}
 use Rattle.chart.specs.declared.shape.Geometry.{Geometry}
 use Rattle.chart.specs.declared.headers.Start.{Start}
 use Rattle.chart.specs.declared.headers.Start.TheVariants.{Unknown, Empty}
 use Rattle.chart.specs.declared.headers.HeaderFields.{HeaderFields}
 use Rattle.chart.specs.declared.headers.Header.{Header}
-use Rattle.chart.specs.declared.headers.HeaderRead.{HeaderRead}
-use Rattle.chart.specs.declared.headers.HeaderRead.TheVariants.{Accepted, Refused}
 use Rattle.refusals.specs.declared.Refusal.{Refusal}
 use Rattle.refusals.specs.declared.Refusal.TheVariants.{TooShort, Edition, CacheShape, StartCode, NodeCount, EntryNode, SpareBits, Length}
 use Rattle.refusals.specs.Refusals.{number_of, place_of}
@@ -39,6 +37,10 @@ geometry_of fields = record { line = fields.line; sets = fields.sets; ways = fie
 -- Rule 1.2: the start of a code.
 abbrev pub start_of : ℕ → Start
 start_of code = cond (eqb code 0) Unknown Empty
+
+-- Rules 1.2 and 11.4: what reading a code answers.
+abbrev pub StartRead : ℕ → Result Start Refusal → Type 0
+StartRead code answer = answer ≡ cond (ltb 1 code) (Err StartCode) (Ok (start_of code))
 
 -- Rule 1.2: the code of a start, `start_of` backwards.
 abbrev pub start_code : Start → ℕ
@@ -82,8 +84,8 @@ bytes_cases bytes =
     ∷ header_cases (fields_in bytes) (eqb (length bytes) (chart_length (fields_in bytes).nodes))
 
 -- Rule 12.1, of the header alone: the first of refusals 1 to 8 that applies, or the header.
-unfoldable pub header_read : List ℕ → HeaderRead
-header_read bytes = first_case Refused (bytes_cases bytes) (Accepted (header_in bytes))
+unfoldable pub header_read : List ℕ → Result Header Refusal
+header_read bytes = first_case Err (bytes_cases bytes) (Ok (header_in bytes))
 
 -- Rule 12.9: a header in numbers.
 abbrev pub header_numbers : Header → List ℕ
@@ -103,9 +105,9 @@ pub record HeaderSaid : Type 0 where
   pub header : List ℕ
 
 -- Rule 12.8, of the header alone.
-abbrev pub header_says : HeaderRead → HeaderSaid
-header_says (Accepted header) = record { number = 0; place = 0; header = header_numbers header }
-header_says (Refused refusal) = record { number = number_of refusal; place = place_of refusal; header = [] }
+abbrev pub header_says : Result Header Refusal → HeaderSaid
+header_says (Ok header) = record { number = 0; place = 0; header = header_numbers header }
+header_says (Err refusal) = record { number = number_of refusal; place = place_of refusal; header = [] }
 
 abbrev pub read_header_says : List ℕ → HeaderSaid
 read_header_says bytes = header_says (header_read bytes)

@@ -1,15 +1,14 @@
 -- A node's record: its fields, what is allowed in them, what it touches and where its arrows lead. Rules 2.1 to 2.4, 2.7 to 2.12 and 3.3.
 -- Choices: one test for all that a record has to keep, of any fields, whether or not a word can hold them; touches are a list, of none, one or two.
 -- A record that is refused reads as something too: a kind above 2 as a read, more than two arrows as two, a size code above 2 as four bytes.
-use Rattle.std.specs.Prelude.{ℕ, ◌+◌, ◌-◌, ◌^◌, ◌<◌, Bool, not, cond, ◌&&◌, ◌||◌, List, [], ◌∷◌, map, ltb, leb, eqb}
+use Rattle.std.specs.Prelude.{ℕ, ◌+◌, ◌-◌, ◌^◌, ◌<◌, Bool, not, cond, ◌&&◌, ◌||◌, List, [], ◌∷◌, map, ltb, leb, eqb, None, Option, Some}
 use Rattle.chart.specs.declared.shape.Geometry.{Geometry}
 use Rattle.chart.specs.declared.records.RecordFields.{RecordFields}
-use Rattle.chart.specs.declared.records.Record.{Record}
-use Rattle.chart.specs.declared.records.Record.TheVariants.{Step, Reference}
 use Rattle.chart.specs.declared.records.Targets.{Targets}
 use Rattle.chart.specs.declared.records.Node.{Node}
 use Rattle.chart.specs.Layout.{field, record_widths}
 use Rattle.chart.specs.Geometry.{block_of}
+use Rattle.chart.specs.declared.records.Reference.{Reference}
 
 -- Rule 2.1: the fields of a record's word, in order.
 abbrev pub record_fields : ℕ → RecordFields
@@ -54,16 +53,16 @@ record_keeps nodes fields =
     && leb fields.size 2))))))
 
 -- Rules 2.2 and 2.10: what a record is by its kind, and from which byte to which a reference goes.
-unfoldable pub record_of : RecordFields → Record
+unfoldable pub record_of : RecordFields → Option Reference
 record_of fields =
-    cond (eqb fields.kind 0) Step (Reference (record { write = eqb fields.kind 2; address = fields.address; last = last_byte fields }))
+    cond (eqb fields.kind 0) None (Some (record { write = eqb fields.kind 2; address = fields.address; last = last_byte fields }))
 
 -- Rule 2.1: how many arrows lead out, and the two fields for targets.
 abbrev pub targets_of : RecordFields → Targets
 targets_of fields = record { outs = fields.outs; first = fields.first; second = fields.second }
 
 -- Rules 2.1 and 2.2: what a node does and where it leads.
-abbrev pub node_of : RecordFields → Node
+abbrev pub node_of : RecordFields → Node Reference
 node_of fields = record { what = record_of fields; targets = targets_of fields }
 
 -- Rule 2.4: the targets of the arrows that are used, the first first.
@@ -77,9 +76,9 @@ pub record Leads (nodes : ℕ) (targets : Targets) : Type 0 where
   pub second_in : 1 < targets.outs → targets.second < nodes
 
 -- Rule 2.12: a reference ends within 32 bits. Every one of an accepted chart does.
-abbrev pub Ends : Record → Type 0
-Ends Step = Unit {0}
-Ends (Reference reference) = reference.last < 2 ^ 32
+abbrev pub Ends : Option Reference → Type 0
+Ends None = Unit {0}
+Ends (Some reference) = reference.last < 2 ^ 32
 
 -- Rule 3.3: one touch of the cache, of which block; and whether by a write.
 pub record Touch : Type 0 where
@@ -94,9 +93,9 @@ both_touched write lower upper =
 
 -- Rule 3.3: what a record touches; the lower block is the one in which the first byte lies, the upper one that in which the last byte lies. A bare
 -- step has no touch, so nothing is done for it (rule 2.7); a write has a read's (rule 2.8), and the flag only says that it is one.
-unfoldable pub touches_of : Geometry → Record → List Touch
-touches_of geometry Step = []
-touches_of geometry (Reference reference) =
+unfoldable pub touches_of : Geometry → Option Reference → List Touch
+touches_of geometry None = []
+touches_of geometry (Some reference) =
     both_touched reference.write (block_of geometry reference.address) (block_of geometry reference.last)
 
 -- Rule 3.3: the blocks of touches, in turn.

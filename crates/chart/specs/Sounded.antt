@@ -2,28 +2,27 @@
 -- entry and arrows are not below N), a bare step, a read and a write, the limits of N, of the entry and of the blocks from both sides (rules 1.2, 1.4,
 -- 3.4, 11.5, 11.6, 11.8 and 11.10), two arrows to one node, and what looks alike and is allowed (rule 2.9).
 -- Nothing here is a rule of the tool: these are examples, and `chart_sounded` in proofs/Sounded.antt holds the definitions to them (`ChartSounded`).
-use Rattle.std.specs.Prelude.{ℕ, ◌+◌, ◌*◌, ◌-◌, ◌/◌, ◌%◌, cond, List, [], ◌∷◌, ◌++◌, map, replicate, set}
+use Rattle.std.specs.Prelude.{ℕ, ◌+◌, ◌*◌, ◌-◌, ◌/◌, ◌%◌, cond, List, [], ◌∷◌, ◌++◌, map, replicate, set, None, Option, Some}
 use Rattle.lists.specs.Lists.{list_of, joined}
 use Rattle.lists.specs.Soundings.{Sounding, ◌reads◌}
 use Rattle.chart.specs.declared.shape.Geometry.{Geometry}
-use Rattle.chart.specs.declared.records.Record.{Record}
-use Rattle.chart.specs.declared.records.Record.TheVariants.{Step, Reference}
 use Rattle.chart.specs.declared.records.Node.{Node}
 use Rattle.chart.specs.Layout.{word_at}
 use Rattle.chart.specs.Header.{header_numbers, header_in, read_header_says}
 use Rattle.chart.specs.Record.{Touch, record_fields, record_keeps, arrows_of, touches_of}
 use Rattle.chart.specs.Chart.{node_at}
 use Rattle.chart.specs.Reading.{read_says}
+use Rattle.chart.specs.declared.records.Reference.{Reference}
 
 -- ---- what is read off
 
 -- A bare step is 0; a read is 1 and a write 2, each with the addresses of its first and its last byte.
-abbrev pub record_out : Record → List ℕ
-record_out Step = 0 ∷ []
-record_out (Reference reference) = cond reference.write 2 1 ∷ reference.address ∷ reference.last ∷ []
+abbrev pub record_out : Option Reference → List ℕ
+record_out None = 0 ∷ []
+record_out (Some reference) = cond reference.write 2 1 ∷ reference.address ∷ reference.last ∷ []
 
 -- What the node does, then the number of its arrows and their two fields.
-abbrev pub node_out : Node → List ℕ
+abbrev pub node_out : Node Reference → List ℕ
 node_out node =
     record_out node.what ++ node.targets.outs ∷ node.targets.first ∷ node.targets.second ∷ []
 

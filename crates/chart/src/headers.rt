@@ -3,7 +3,7 @@
 ghost use Rattle.std.specs.Prelude.{◌≡◌, true};
 ghost use Rattle.lists.specs.Choice.{first_case};
 ghost use Rattle.chart.specs.Geometry.{shape_allowed};
-ghost use Rattle.chart.specs.Header.{header_fields, geometry_of, start_of, start_code, header_of, header_cases, header_read, header_says, read_header_says};
+ghost use Rattle.chart.specs.Header.{header_fields, geometry_of, start_code, StartRead, header_of, header_cases, header_read, header_says, read_header_says};
 
 use crate::shape::Geometry;
 use crate::words::{bits, word_at};
@@ -42,6 +42,21 @@ impl Start {
     }
 }
 
+// The start of a code, or refusal 4 where there is none.
+impl TryFrom<u64> for Start {
+    type Error = Refusal;
+
+    ghost try_from_gives = { StartRead };
+
+    fn try_from(code: u64) -> Result<Self, Refusal> {
+        match code {
+            0 => Ok(Start::Unknown),
+            1 => Ok(Start::Empty),
+            _ => Err(Refusal::StartCode),
+        }
+    }
+}
+
 // What a header says that is accepted.
 #[derive(Clone, Copy)]
 pub struct Header {
@@ -49,12 +64,6 @@ pub struct Header {
     pub start: Start,
     pub nodes: usize,
     pub entry: usize,
-}
-
-#[derive(Clone, Copy)]
-pub enum HeaderRead {
-    Accepted(Header),
-    Refused(Refusal),
 }
 
 // The fields in the chart's first word.
@@ -96,51 +105,37 @@ fn geometry_of(fields: HeaderFields) -> Geometry
     }
 }
 
-fn start_of(code: u64) -> Start
-    ensures { result ≡ start_of code }
-{
-    if code == 0 {
-        Start::Unknown
-    } else {
-        Start::Empty
-    }
-}
-
 // The header of these fields, or the first of refusals 2 to 8 that applies; `long` says whether the length is the one for them.
-pub fn header_of(fields: HeaderFields, long: bool) -> HeaderRead
-    ensures { result ≡ first_case HeaderRead.Refused (header_cases fields long) (HeaderRead.Accepted (header_of fields)) }
+pub fn header_of(fields: HeaderFields, long: bool) -> Result<Header, Refusal>
+    ensures { result ≡ first_case Err (header_cases fields long) (Ok (header_of fields)) }
 {
     let edition = fields.edition;
     if edition != 1 {
-        return HeaderRead::Refused(Refusal::Edition);
+        return Err(Refusal::Edition);
     }
     let allowed = shape_allowed(fields);
     if !allowed {
-        return HeaderRead::Refused(Refusal::CacheShape);
+        return Err(Refusal::CacheShape);
     }
-    let code = fields.start;
-    if 1 < code {
-        return HeaderRead::Refused(Refusal::StartCode);
-    }
+    let start = Start::try_from(fields.start)?;
     let nodes = fields.nodes;
     let counted = (1 <= nodes) & (nodes <= Geometry::NODES as u64);
     if !counted {
-        return HeaderRead::Refused(Refusal::NodeCount);
+        return Err(Refusal::NodeCount);
     }
     let entry = fields.entry;
     if nodes <= entry {
-        return HeaderRead::Refused(Refusal::EntryNode);
+        return Err(Refusal::EntryNode);
     }
     let clear = (fields.first_spare == 0) & (fields.second_spare == 0);
     if !clear {
-        return HeaderRead::Refused(Refusal::SpareBits);
+        return Err(Refusal::SpareBits);
     }
     if !long {
-        return HeaderRead::Refused(Refusal::Length);
+        return Err(Refusal::Length);
     }
     let geometry = geometry_of(fields);
-    let start = start_of(code);
-    HeaderRead::Accepted(Header {
+    Ok(Header {
         geometry: geometry,
         start: start,
         nodes: nodes as usize,
@@ -149,12 +144,12 @@ pub fn header_of(fields: HeaderFields, long: bool) -> HeaderRead
 }
 
 // The header of any bytes, or the first of refusals 1 to 8 that applies (rule 12.1). Records are not looked at.
-pub fn read_header(chart: &[u8]) -> HeaderRead
+pub fn read_header(chart: &[u8]) -> Result<Header, Refusal>
     ensures value { result ≡ header_read chart.now }
     ensures result_value { header_says result ≡ read_header_says chart.now }
 {
     if chart.len() < 8 {
-        return HeaderRead::Refused(Refusal::TooShort);
+        return Err(Refusal::TooShort);
     }
     let fields = header_fields(word_at(chart, 0));
     let nodes = fields.nodes as usize;

@@ -11,10 +11,8 @@ mod records;
 mod shape;
 mod words;
 
-pub use gathering::{Gathered, gather};
-pub use headers::{Header, HeaderFields, HeaderRead, Start, header_of, read_header};
-pub use readings::{Reading, Verdict, read};
-pub use records::{
-    Node, Record, RecordFields, Reference, Targets, fields_at, node_at, record_keeps,
-};
+pub use gathering::gather;
+pub use headers::{Header, HeaderFields, Start, header_of, read_header};
+pub use readings::{Outline, Reading, read};
+pub use records::{Node, RecordFields, Reference, Targets, fields_at, node_at, record_keeps};
 pub use shape::Geometry;

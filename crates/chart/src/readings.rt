@@ -4,23 +4,23 @@ ghost use Rattle.chart.specs.Layout.{chart_length};
 ghost use Rattle.chart.specs.Chart.{refused, records_in, records_read};
 ghost use Rattle.chart.specs.Reading.{reading_of, reading, verdict_says, read_says};
 
-use crate::gathering::{Gathered, gather};
-use crate::headers::{Header, HeaderRead, read_header};
+use crate::gathering::gather;
+use crate::headers::{Header, read_header};
 use crate::records::first_broken;
 use crate::shape::Geometry;
 use refusals::Refusal;
 
-// A chart with that many blocks, or why it is none.
+// An accepted chart's header, and how many blocks it has.
 #[derive(Clone, Copy)]
-pub enum Verdict {
-    Accepted(Header, usize),
-    Refused(Refusal),
+pub struct Outline {
+    pub header: Header,
+    pub blocks: usize,
 }
 
 // The blocks stand at the start of the array, zeros after them; after a refusal there are zeros only (rule 12.1).
 #[derive(Drop)]
 pub struct Reading {
-    pub verdict: Verdict,
+    pub verdict: Result<Outline, Refusal>,
     pub blocks: [u32; Geometry::BLOCKS],
 }
 
@@ -28,7 +28,7 @@ fn refuse(refusal: Refusal) -> Reading
     ensures { result ≡ reading_of (refused refusal) }
 {
     Reading {
-        verdict: Verdict::Refused(refusal),
+        verdict: Err(refusal),
         blocks: [0u32; Geometry::BLOCKS],
     }
 }
@@ -40,16 +40,17 @@ fn read_records(chart: &[u8], header: Header) -> Reading
 {
     let geometry = header.geometry;
     let nodes = header.nodes;
-    let broken = first_broken(chart, nodes);
-    if broken < nodes {
-        return refuse(Refusal::BrokenRecord(broken));
+    if let Some(node) = first_broken(chart, nodes) {
+        return refuse(Refusal::BrokenRecord(node));
     }
     let mut blocks = [0u32; Geometry::BLOCKS];
-    let gathered = gather(chart, geometry, nodes, &mut blocks);
-    match gathered {
-        Gathered::TooMany(node) => refuse(Refusal::TooManyBlocks(node)),
-        Gathered::Blocks(count) => Reading {
-            verdict: Verdict::Accepted(header, count),
+    match gather(chart, geometry, nodes, &mut blocks) {
+        Err(refusal) => refuse(refusal),
+        Ok(count) => Reading {
+            verdict: Ok(Outline {
+                header: header,
+                blocks: count,
+            }),
             blocks: blocks,
         },
     }
@@ -62,7 +63,7 @@ pub fn read(chart: &[u8]) -> Reading
 {
     let header = read_header(chart);
     match header {
-        HeaderRead::Accepted(header) => read_records(chart, header),
-        HeaderRead::Refused(refusal) => refuse(refusal),
+        Ok(header) => read_records(chart, header),
+        Err(refusal) => refuse(refusal),
     }
 }

@@ -2,6 +2,7 @@
 // first node whose record does not; nothing else here refuses, and a record that breaks a rule reads as something too. Callers keep bytes that hold
 // the record.
 ghost use Rattle.std.specs.Prelude.{◌≡◌, ◌+◌, ◌^◌, ◌≤◌, ◌<◌, length};
+ghost use Rattle.lists.specs.Choice.{found};
 ghost use Rattle.chart.specs.Layout.{chart_length};
 ghost use Rattle.chart.specs.Record.{record_fields, arrow_keeps, twins, bytes_of, record_keeps, record_of, node_of};
 ghost use Rattle.chart.specs.Chart.{records_in, node_at, first_broken};
@@ -27,12 +28,6 @@ pub struct Reference {
     pub last: u64,
 }
 
-#[derive(Clone, Copy)]
-pub enum Record {
-    Step,
-    Reference(Reference),
-}
-
 // How many arrows lead out of a node, and where to.
 #[derive(Clone, Copy)]
 pub struct Targets {
@@ -41,9 +36,10 @@ pub struct Targets {
     pub second: usize,
 }
 
+// What a node does, a reference or a bare step, and where its arrows lead.
 #[derive(Clone, Copy)]
-pub struct Node {
-    pub what: Record,
+pub struct Node<R> {
+    pub what: Option<R>,
     pub targets: Targets,
 }
 
@@ -83,17 +79,17 @@ fn bytes_of(size: u64) -> u64
 }
 
 // What the record of these fields does.
-fn record_of(fields: RecordFields) -> Record
+fn record_of(fields: RecordFields) -> Option<Reference>
     requires { fields.address < 2 ^ 32 }
     ensures { result ≡ record_of fields }
 {
     let kind = fields.kind;
     if kind == 0 {
-        return Record::Step;
+        return None;
     }
     let address = fields.address;
     let bytes = bytes_of(fields.size);
-    Record::Reference(Reference {
+    Some(Reference {
         write: kind == 2,
         address: address as u32,
         last: address + bytes - 1,
@@ -101,7 +97,7 @@ fn record_of(fields: RecordFields) -> Record
 }
 
 // The node whose record has these fields.
-fn node_of(fields: RecordFields) -> Node
+fn node_of(fields: RecordFields) -> Node<Reference>
     requires { fields.address < 2 ^ 32 }
     ensures { result ≡ node_of fields }
 {
@@ -117,7 +113,7 @@ fn node_of(fields: RecordFields) -> Node
 }
 
 // The node whose record is number n of any bytes that hold it, whether or not it keeps its rules: that is `read`'s to judge.
-pub fn node_at(chart: &[u8], n: usize) -> Node
+pub fn node_at(chart: &[u8], n: usize) -> Node<Reference>
     requires { chart_length (n + 1) ≤ length chart.now }
     ensures { result ≡ node_at chart.now n }
 {
@@ -159,16 +155,16 @@ pub fn record_keeps(nodes: usize, fields: RecordFields) -> bool
     (kind <= 2) & (fits & (refers & ((outs <= 2) & (first & (second & (!alike & (size <= 2)))))))
 }
 
-// The first node whose record breaks its rules, or `nodes` (rule 11.9).
-pub(crate) fn first_broken(chart: &[u8], nodes: usize) -> usize
+// The first node whose record breaks its rules, if there is one (rule 11.9).
+pub(crate) fn first_broken(chart: &[u8], nodes: usize) -> Option<usize>
     requires { chart_length nodes ≤ length chart.now }
-    ensures { result ≡ first_broken (records_in chart.now) nodes }
+    ensures { result ≡ found nodes (first_broken (records_in chart.now) nodes) }
 {
     for n in 0..nodes {
         let keeps = record_keeps(nodes, fields_at(chart, n));
         if !keeps {
-            return n;
+            return Some(n);
         }
     }
-    nodes
+    None
 }

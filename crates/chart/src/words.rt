@@ -3,21 +3,15 @@
 ghost use Rattle.std.specs.Prelude.{◌≡◌, ◌+◌, ◌*◌, ◌/◌, ◌%◌, ◌^◌, ◌≤◌, ◌<◌, length};
 ghost use Rattle.chart.specs.Layout.{number_at, word_at};
 
-fn wide(byte: u8) -> u64
-    ensures { (result ≡ byte) × (result < 256) }
-{
-    byte as u64
-}
-
 // Four bytes from a place on, the first the most significant.
 fn half_at(chart: &[u8], place: usize) -> u64
     requires { place + 4 ≤ length chart.now }
     ensures { (result ≡ number_at chart.now place 4) × (result < 4294967296) }
 {
-    wide(chart[place]) * 16777216
-        + wide(chart[place + 1]) * 65536
-        + wide(chart[place + 2]) * 256
-        + wide(chart[place + 3])
+    u64::from(chart[place]) * 16777216
+        + u64::from(chart[place + 1]) * 65536
+        + u64::from(chart[place + 2]) * 256
+        + u64::from(chart[place + 3])
 }
 
 // The eight bytes of word n, the first the most significant.

@@ -1,6 +1,7 @@
 -- What the checker answers for a plan: from the tests of the table's used parts, which alone are handed on, to `checked_by`.
+use Rattle.std.specs.Prelude.{Err, Ok}
 use Prim.Native.Nat.{ℕ, ◌*◌, ◌≤◌}
-use mathlib.Core.Bool.{Bool, true, false, cond, ◌||◌}
+use mathlib.Core.Bool.{Bool, true, false, ◌||◌}
 use mathlib.Core.List.{List}
 use mathlib.Core.Path.{◌≡◌, sym, ◌∙◌}
 use native.Mathlib.Nat.{mul-le-mul}
@@ -16,7 +17,6 @@ use Rattle.tables.specs.Lent.{Lent, table_short}
 use Rattle.tables.specs.Inner.{Roomy, used_part}
 use Rattle.tables.proofs.Laid.{long-enough}
 use Rattle.tables.proofs.Used.{part_same}
-use Rattle.checker.specs.declared.Checked.TheVariants.{Yes, No, Refused}
 use Rattle.checker.specs.Checker.{passing, checked_by}
 use Rattle.checker.proofs.Used.{passing-used}
 
@@ -38,7 +38,7 @@ module _ {columns plan : List ℕ} (drawn : Drawn columns plan) (lent : Lent) {n
       ltb (length lent.must) (nodes_are i * blocks_are i)
       || (ltb (length lent.may) (nodes_are i * blocks_are i) || ltb (length lent.marks) (nodes_are i))
 
-  pub short-answer : short ≡ true → Refused ShortBuffer ≡ checked_by held lent
+  pub short-answer : short ≡ true → Err ShortBuffer ≡ checked_by held lent
   unfolding checked_by
   short-answer e = rw (← short-is, e)
 
@@ -74,6 +74,6 @@ module _ {columns plan : List ℕ} (drawn : Drawn columns plan) (lent : Lent) {n
         }))
         ∙ passing-used held drawn.sound (used_part held lent) lent (part_same held lent (sym short-is ∙ e))
 
-    pub long-answer : {pass : Bool} → pass ≡ passing held part → cond pass Yes No ≡ checked_by held lent
+    pub long-answer : {pass : Bool} → pass ≡ passing held part → Ok pass ≡ checked_by held lent
     unfolding checked_by
     long-answer {pass} p = let passed : pass ≡ passing held lent = p ∙ part-passing in rw (← short-is, e, passed)

@@ -1,4 +1,5 @@
 -- What an answer of the checker says of the table.
+use Rattle.std.specs.Prelude.{Err, Ok}
 use Prim.Native.Nat.{ℕ}
 use mathlib.Core.Bool.{Bool, true, false}
 use mathlib.Core.List.{List}
@@ -12,7 +13,6 @@ use Rattle.ages.specs.Charted.{plan_of}
 use Rattle.plan.specs.Listed.{plan_in}
 use Rattle.drawing.specs.Drawing.{Draws}
 use Rattle.tables.specs.Lent.{Lent, table_short}
-use Rattle.checker.specs.declared.Checked.TheVariants.{Yes, No, Refused}
 use Rattle.checker.specs.Checker.{passing, checked_by, checked}
 use Rattle.checker.specs.Inner.{answer_of}
 
@@ -29,17 +29,17 @@ pub checked-drawn : {bytes columns plan : List ℕ} {chart : Chart} (lent : Lent
 unfolding checked
 checked-drawn {chart = chart} lent draws read = rw read (ap (λ (plan : Plan). checked_by plan lent) (draws.plan_is chart read))
 
-pub short-only : (refusal : Refusal) (short pass : Bool) → answer_of short pass ≡ Refused refusal → (short ≡ true) × (refusal ≡ ShortBuffer)
+pub short-only : (refusal : Refusal) (short pass : Bool) → answer_of short pass ≡ Err refusal → (short ≡ true) × (refusal ≡ ShortBuffer)
 short-only refusal true pass e = (refl, cc)
 short-only refusal false true e = let z : ◌≡◌ {A = ℕ} 0 1 = cc in absurd (omega arith)
 short-only refusal false false e = let z : ◌≡◌ {A = ℕ} 0 1 = cc in absurd (omega arith)
 
-pub no-only : (short pass : Bool) → answer_of short pass ≡ No → (short ≡ false) × (pass ≡ false)
+pub no-only : (short pass : Bool) → answer_of short pass ≡ Ok false → (short ≡ false) × (pass ≡ false)
 no-only true pass e = let z : ◌≡◌ {A = ℕ} 0 1 = cc in absurd (omega arith)
 no-only false true e = let z : ◌≡◌ {A = ℕ} 0 1 = cc in absurd (omega arith)
 no-only false false e = (refl, refl)
 
-pub yes-only : (short pass : Bool) → answer_of short pass ≡ Yes → (short ≡ false) × (pass ≡ true)
+pub yes-only : (short pass : Bool) → answer_of short pass ≡ Ok true → (short ≡ false) × (pass ≡ true)
 yes-only true pass e = let z : ◌≡◌ {A = ℕ} 0 1 = cc in absurd (omega arith)
 yes-only false true e = (refl, refl)
 yes-only false false e = let z : ◌≡◌ {A = ℕ} 0 1 = cc in absurd (omega arith)

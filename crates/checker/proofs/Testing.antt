@@ -5,9 +5,10 @@ use mathlib.Core.List.{List}
 use mathlib.Core.Path.{◌≡◌, sym, ap, subst, ◌∙◌}
 use native.Mathlib.Omega.{arith}
 use borrow.Author.Tests.{ne_eqb}
-use lib.Dec.{leb}
+use lib.Dec.{leb, eqb}
 use lib.ListN.{get_or}
 use Rattle.lists.specs.Choice.{every, every_of}
+use Rattle.lists.proofs.Asked.{every-both}
 use Rattle.lists.proofs.Choice.{and_last, every-same}
 use Rattle.lists.proofs.Joined.{row_in}
 use Rattle.lists.proofs.Listed.{get_or-list_of}
@@ -17,7 +18,6 @@ use Rattle.chart.specs.Record.{arrows_of}
 use Rattle.cache.specs.Ages.{Ages, age_of, start_ages}
 use Rattle.layout.specs.Rows.{row_at}
 use Rattle.ages.specs.Plan.{Plan, columns_of, arrows_in, plan_flow}
-use Rattle.plan.specs.declared.PlannedNode.{PlannedNode}
 use Rattle.plan.specs.Listed.{nodes_in, blocks_in, entry_in, empty_in, node_in, plan_in, Drawn}
 use Rattle.plan.proofs.Holding.{arrows-held, must-limit-held, may-limit-held}
 use Rattle.rows.specs.declared.Row.{Row}
@@ -27,6 +27,8 @@ use Rattle.tables.specs.Inner.{Roomy, row_after, AgesAgree}
 use Rattle.tables.proofs.After.{after-agrees, start-agrees}
 use Rattle.checker.specs.Checker.{fits, zeroed, marked, row_ages, allows, ages_fit, entry_allows, node_passing}
 use Rattle.checker.specs.Inner.{RowIn}
+use Rattle.chart.specs.declared.records.Node.{Node}
+use Rattle.plan.specs.declared.ColumnTouches.{ColumnTouches}
 
 -- ---- turns
 
@@ -41,6 +43,13 @@ module _ (blocks : ℕ) (must may : List ℕ) (n k : ℕ) (h : k < blocks) where
   ages-turn test c d e q =
       every-turn k (λ column. test column (age_of (row_at blocks must n) column) (age_of (row_at blocks may n) column)) c d e
       (q ∙ (λ i. c && test k (sym (age-at must) i) (sym (age-at may) i)))
+
+-- The ages of row n are 0 where those in each of its lists are.
+pub row-zeroed : (blocks : ℕ) (must may : List ℕ) (n : ℕ)
+    → (every blocks (λ column. eqb (get_or must (n * blocks + column) 0) 0) && every blocks (λ column. eqb (get_or may (n * blocks + column) 0) 0)) ≡ zeroed blocks (row_ages blocks must may n)
+row-zeroed blocks must may n =
+    every-both blocks _ _
+    ∙ every-same blocks _ _ (λ k h. λ i. eqb (sym (age-at blocks must may n k h must) i) 0 && eqb (sym (age-at blocks must may n k h may) i) 0)
 
 -- ---- room
 
@@ -96,10 +105,10 @@ module _ {columns plan : List ℕ} (drawn : Drawn columns plan) (lent : Lent) (n
       rw (mark, and_last) (λ i. fit-held i && (e ∙ (λ j. zeroed (is j) (row_ages (is j) lent.must lent.may n))) i)
 
   module _ (inside : n < nodes_in plan) (roomy : Roomy (nodes_in plan) (blocks_in plan) lent.must lent.may lent.marks)
-      {node : PlannedNode} (found : node ≡ node_in plan n) (row : Ages) (after : AgesAgree blocks row (row_after columns lent.must lent.may blocks n node.what)) where
+      {node : Node ColumnTouches} (found : node ≡ node_in plan n) (row : Ages) (after : AgesAgree blocks row (row_after columns lent.must lent.may blocks n node.what)) where
     after-held : AgesAgree (blocks_in plan) row (row_after columns lent.must lent.may (blocks_in plan) n (node_in plan n).what)
     after-held =
-        subst (λ (p : PlannedNode). AgesAgree (blocks_in plan) row (row_after columns lent.must lent.may (blocks_in plan) n p.what)) found
+        subst (λ (p : Node ColumnTouches). AgesAgree (blocks_in plan) row (row_after columns lent.must lent.may (blocks_in plan) n p.what)) found
         (subst (λ (b : ℕ). AgesAgree b row (row_after columns lent.must lent.may b n node.what)) is after)
 
     pub marked-passing : (get_or lent.marks n 0 ≡ 0 → ⊥) → {out : Bool} → out ≡ every_of (allows blocks lent row) (arrows_of node.targets)

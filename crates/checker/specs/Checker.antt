@@ -1,7 +1,7 @@
 -- What the checker answers for any bytes and any lent table. Rules 7.2 to 7.7 a second time, as tests that run, and rules 11.11, 12.5, 12.8 and
 -- 12.9; demand 2 has it that the tests and `TablePasses` agree. An age is held to the limit of its column, which for a chart is A. Any mark but 0
 -- makes a node marked, and that it is 1 is a test of its own. In numbers yes is 1 and no is 0.
-use Rattle.std.specs.Prelude.{ℕ, Bool, not, cond, ◌&&◌, ◌||◌, List, [], ◌∷◌, get_or, leb, eqb}
+use Rattle.std.specs.Prelude.{ℕ, Bool, not, ◌&&◌, ◌||◌, List, [], ◌∷◌, get_or, leb, eqb, Err, Ok, Result, false, true}
 use Rattle.lists.specs.Choice.{◌⇒◌, first_case, every, every_of}
 use Rattle.refusals.specs.declared.Refusal.TheVariants.{ShortBuffer}
 use Rattle.refusals.specs.Refusals.{number_of, place_of}
@@ -11,8 +11,7 @@ use Rattle.layout.specs.Rows.{row_at}
 use Rattle.ages.specs.Plan.{Plan, columns_of, arrows_in, plan_flow}
 use Rattle.ages.specs.Charted.{plan_of}
 use Rattle.tables.specs.Lent.{Lent, ages_at, table_short}
-use Rattle.checker.specs.declared.Checked.{Checked}
-use Rattle.checker.specs.declared.Checked.TheVariants.{Yes, No, Refused}
+use Rattle.refusals.specs.declared.Refusal.{Refusal}
 
 -- ---- tests of ages, column by column
 
@@ -81,17 +80,17 @@ module _ (plan : Plan) (lent : Lent) where
 -- ---- answers
 
 -- Rule 12.5, of an accepted chart's plan: refusal 11 by rule 11.11, and then yes or no.
-unfoldable pub checked_by : Plan → Lent → Checked
+unfoldable pub checked_by : Plan → Lent → Result Bool Refusal
 checked_by plan lent =
-    first_case Refused ((table_short plan lent ⇒ ShortBuffer) ∷ []) (cond (passing plan lent) Yes No)
+    first_case Err ((table_short plan lent ⇒ ShortBuffer) ∷ []) (Ok (passing plan lent))
 
 -- Rule 12.5: refusals 1 to 10 are the reader's.
-abbrev pub check_read : Lent → Read → Checked
+abbrev pub check_read : Lent → Read → Result Bool Refusal
 check_read lent (accepted chart) = checked_by (plan_of chart) lent
-check_read lent (refused refusal) = Refused refusal
+check_read lent (refused refusal) = Err refusal
 
 -- Rule 12.5, of any bytes.
-unfoldable pub checked : List ℕ → Lent → Checked
+unfoldable pub checked : List ℕ → Lent → Result Bool Refusal
 checked bytes lent = check_read lent (read_chart bytes)
 
 -- The answer in numbers, as rule 12.9 has them: number and place, both 0 for no refusal, then 1 for yes and 0 for no.
@@ -101,10 +100,10 @@ pub record CheckedSaid : Type 0 where
   pub yes : ℕ
 
 -- Rules 12.5 and 12.8: yes, no, or a refusal with nothing but its number and its place.
-abbrev pub checked_says : Checked → CheckedSaid
-checked_says Yes = record { number = 0; place = 0; yes = 1 }
-checked_says No = record { number = 0; place = 0; yes = 0 }
-checked_says (Refused refusal) = record { number = number_of refusal; place = place_of refusal; yes = 0 }
+abbrev pub checked_says : Result Bool Refusal → CheckedSaid
+checked_says (Ok true) = record { number = 0; place = 0; yes = 1 }
+checked_says (Ok false) = record { number = 0; place = 0; yes = 0 }
+checked_says (Err refusal) = record { number = number_of refusal; place = place_of refusal; yes = 0 }
 
 -- The same of any bytes.
 abbrev pub check_says : List ℕ → Lent → CheckedSaid

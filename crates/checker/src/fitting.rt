@@ -5,7 +5,7 @@ ghost use Rattle.rows.specs.Rows.{columns_by};
 ghost use Rattle.tables.specs.Inner.{Loads};
 ghost use Rattle.checker.specs.Checker.{fits, zeroed, row_ages};
 
-// Whether the ages of row n are at most the limits of their columns.
+// Whether the ages of row n are at most the limits of their columns. By places, since four lists are looked at at once, and without a jump.
 pub(crate) fn row_fits(columns: &[u8], must: &[u8], may: &[u8], blocks: usize, n: usize) -> bool
     requires { Loads columns.now must.now may.now blocks n }
     ensures { result ≡ fits (columns_by columns.now blocks) (row_ages blocks must.now may.now n) }
@@ -26,9 +26,6 @@ pub(crate) fn row_zero(must: &[u8], may: &[u8], blocks: usize, n: usize) -> bool
     ensures { result ≡ zeroed blocks (row_ages blocks must.now may.now n) }
 {
     let base = n * blocks;
-    let mut zero = true;
-    for k in 0..blocks {
-        zero = zero & ((must[base + k] == 0) & (may[base + k] == 0));
-    }
-    zero
+    must[base..base + blocks].iter().all(|age| *age == 0)
+        && may[base..base + blocks].iter().all(|age| *age == 0)
 }

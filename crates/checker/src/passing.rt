@@ -2,46 +2,46 @@
 // room for the table of a plan. Nothing is refused here.
 ghost use Rattle.std.specs.Prelude.{◌≡◌, ◌<◌};
 ghost use Rattle.lists.specs.Choice.{every};
-ghost use Rattle.plan.specs.Listed.{nodes_in, DrawnIn, plan_at};
-ghost use Rattle.tables.specs.Contract.{entry_table, RoomFor};
+ghost use Rattle.plan.specs.Listed.{nodes_in};
+ghost use Rattle.plan.specs.AsPlan.{drawn_as};
+ghost use Rattle.tables.specs.AsTable.{lent_as};
 ghost use Rattle.checker.specs.Checker.{node_passing};
 
 use crate::allowing::targets_allow;
 use crate::fitting::{row_fits, row_zero};
 use chart::Geometry;
 use rows::Row;
+use tables::PlanTable;
 
 // Whether node n's mark is plain, its ages fit, and its row is 0 where it is not marked, or its targets allow its row after its record.
-fn node_passing(
-    columns: &[u8],
-    plan: &[u16],
-    must: &[u8],
-    may: &[u8],
-    marks: &[u8],
-    n: usize,
-) -> bool
-    requires drawn_in { DrawnIn columns plan }
-    requires room_for { RoomFor plan.now must.now may.now marks.now }
-    requires n_bound { n < nodes_in plan.now }
-    ensures { result ≡ node_passing (plan_at columns plan) (entry_table must.now may.now marks.now) n }
+fn node_passing(table: PlanTable, n: usize) -> bool
+    requires { n < nodes_in table.plan.numbers.now }
+    ensures { result ≡ node_passing (drawn_as table.entry.plan) (lent_as table.entry.table) n }
 {
-    let blocks = plan::blocks_in(plan);
-    let fits = row_fits(columns, must, may, blocks, n);
-    if marks[n] == 0 {
-        return fits & row_zero(must, may, blocks, n);
+    let plan = table.plan;
+    let ages = table.table;
+    let blocks = plan.blocks();
+    let fits = row_fits(plan.columns, ages.must, ages.may, blocks, n);
+    if ages.marks[n] == 0 {
+        return fits & row_zero(ages.must, ages.may, blocks, n);
     }
-    let node = plan::node_in(plan, n);
+    let node = plan.node(n);
     let planned = node.what;
     let targets = node.targets;
     let mut musts = [0u8; Geometry::BLOCKS];
     let mut mays = [0u8; Geometry::BLOCKS];
     tables::row_after(
-        must, may, columns, blocks, n, planned, &mut musts, &mut mays,
+        ages.must,
+        ages.may,
+        plan.columns,
+        blocks,
+        n,
+        planned,
+        &mut musts,
+        &mut mays,
     );
     let allowed = targets_allow(
-        must,
-        may,
-        marks,
+        ages,
         blocks,
         Row {
             must: musts,
@@ -49,25 +49,12 @@ fn node_passing(
         },
         targets,
     );
-    (marks[n] <= 1) & (fits & allowed)
+    (ages.marks[n] <= 1) & (fits & allowed)
 }
 
-// Whether every node passes. All are tested, though the first that fails decides.
-pub(crate) fn nodes_passing(
-    columns: &[u8],
-    plan: &[u16],
-    must: &[u8],
-    may: &[u8],
-    marks: &[u8],
-) -> bool
-    requires drawn_in { DrawnIn columns plan }
-    requires room_for { RoomFor plan.now must.now may.now marks.now }
-    ensures { result ≡ every (nodes_in plan.now) (node_passing (plan_at columns plan) (entry_table must.now may.now marks.now)) }
+// Whether every node passes; the first that fails decides.
+pub(crate) fn nodes_passing(table: PlanTable) -> bool
+    ensures { result ≡ every (nodes_in table.entry.plan.numbers.now) (node_passing (drawn_as table.entry.plan) (lent_as table.entry.table)) }
 {
-    let nodes = plan::nodes_in(plan);
-    let mut pass = true;
-    for n in 0..nodes {
-        pass = pass & node_passing(columns, plan, must, may, marks, n);
-    }
-    pass
+    (0..table.plan.nodes()).all(|n| node_passing(table, n))
 }

@@ -1,4 +1,5 @@
 -- The classes of a node by its ages alone, by what stands in the lists of its plan and its table.
+use Rattle.std.specs.Prelude.{None, Option, Some}
 use Prim.Native.Nat.{ℕ, ◌+◌, ◌*◌, ◌<◌}
 use mathlib.Core.Bool.{Bool, false, cond}
 use mathlib.Core.List.{List, [], ◌∷◌}
@@ -14,8 +15,6 @@ use Rattle.flow.specs.Flow.{cell_at}
 use Rattle.ages.specs.Plan.{ColumnTouch, Plan, columns_of, after_touch}
 use Rattle.classes.specs.Class.{unreached, none, class_by}
 use Rattle.plan.specs.declared.ColumnTouches.{ColumnTouches}
-use Rattle.plan.specs.declared.PlannedRecord.{PlannedRecord}
-use Rattle.plan.specs.declared.PlannedRecord.TheVariants.{Step, Reference}
 use Rattle.plan.specs.Listed.{nodes_in, blocks_in, node_in, touches_by, plan_in, Drawn, RecordIn}
 use Rattle.plan.proofs.Holding.{touches-held, key-held, must-limit-held, may-limit-held, record-in}
 use Rattle.tables.specs.Lent.{Lent, ages_at, table_of}
@@ -25,7 +24,7 @@ use Rattle.classing.specs.declared.Classes.{Classes}
 use Rattle.classing.specs.Both.{pair_at, class_after, age_class_of, age_classes, both_by_ages}
 
 -- A reference is of two of the columns.
-pub reference-in : (columns plan : List ℕ) → Drawn columns plan → (n : ℕ) → n < nodes_in plan → (reference : ColumnTouches) → (node_in plan n).what ≡ Reference reference
+pub reference-in : (columns plan : List ℕ) → Drawn columns plan → (n : ℕ) → n < nodes_in plan → (reference : ColumnTouches) → (node_in plan n).what ≡ Some reference
     → (reference.lower < blocks_in plan) × (reference.upper < blocks_in plan)
 reference-in columns plan drawn n inside reference does = subst (RecordIn (blocks_in plan)) does (record-in columns plan drawn n inside)
 
@@ -45,15 +44,15 @@ module _ (columns plan : List ℕ) (lent : Lent) (n : ℕ) (inside : n < nodes_i
     classes_by touches =
         record { first = get_or (age_classes held touches (ages_at held lent n)) 0 none; second = get_or (age_classes held touches (ages_at held lent n)) 1 none }
 
-    record-classes : (planned : PlannedRecord) → (node_in plan n).what ≡ planned → classes_by (touches_by planned) ≡ both
+    record-classes : (planned : Option ColumnTouches) → (node_in plan n).what ≡ planned → classes_by (touches_by planned) ≡ both
     record-classes planned e =
         rw (table_of-at held lent n inside, ne_eqb (get_or lent.marks n 0) 0 marked)
         (ap classes_by (sym (touches-held columns plan n inside ∙ ap touches_by e)))
 
-    pub step-classes : (node_in plan n).what ≡ Step → record { first = none; second = none } ≡ both
-    step-classes e = record-classes Step e
+    pub step-classes : (node_in plan n).what ≡ None → record { first = none; second = none } ≡ both
+    step-classes e = record-classes None e
 
-    module _ (drawn : Drawn columns plan) (reference : ColumnTouches) (does : (node_in plan n).what ≡ Reference reference) where
+    module _ (drawn : Drawn columns plan) (reference : ColumnTouches) (does : (node_in plan n).what ≡ Some reference) where
       abbrev lower : ℕ
       lower = reference.lower
 
@@ -91,7 +90,7 @@ module _ (columns plan : List ℕ) (lent : Lent) (n : ℕ) (inside : n < nodes_i
       once-classes same =
           (λ i. record { first = first-class i; second = none })
           ∙ ap (λ (t : Bool). classes_by (lower_touch ∷ cond t [] (upper_touch ∷ []))) (sym (eq-eqb lower upper same))
-          ∙ record-classes (Reference reference) does
+          ∙ record-classes (Some reference) does
 
       module _ (apart : lower ≡ upper → ⊥) where
         other : eqb upper lower ≡ false
@@ -119,4 +118,4 @@ module _ (columns plan : List ℕ) (lent : Lent) (n : ℕ) (inside : n < nodes_i
         twice-classes =
             (λ i. record { first = first-class i; second = second-class i })
             ∙ ap (λ (t : Bool). classes_by (lower_touch ∷ cond t [] (upper_touch ∷ []))) (sym (ne_eqb lower upper apart))
-            ∙ record-classes (Reference reference) does
+            ∙ record-classes (Some reference) does

@@ -1,4 +1,5 @@
 -- The columns of all touches that are unsure by their ages are among those that are wanted.
+use Rattle.std.specs.Prelude.{None, Option, Some}
 use Prim.Native.Nat.{ℕ, zero, suc, ◌+◌, ◌*◌, ◌/◌, ◌%◌, ◌^◌, ◌≤◌, ◌<◌}
 use mathlib.Core.Bool.{Bool, true, false, cond, ◌||◌}
 use mathlib.Core.List.{List, ◌∷◌}
@@ -16,8 +17,6 @@ use Rattle.chart.specs.Geometry.{most_touches}
 use Rattle.cache.specs.Ages.{Ages}
 use Rattle.flow.specs.Flow.{Cell, cell_at}
 use Rattle.ages.specs.Plan.{ColumnTouch, Plan}
-use Rattle.plan.specs.declared.PlannedRecord.{PlannedRecord}
-use Rattle.plan.specs.declared.PlannedRecord.TheVariants.{Step, Reference}
 use Rattle.plan.specs.Listed.{nodes_in, node_in, touches_by, plan_in}
 use Rattle.plan.proofs.Holding.{touches-held}
 use Rattle.classes.specs.Class.{unsure}
@@ -26,6 +25,7 @@ use Rattle.bits.specs.Bits.{is_set}
 use Rattle.bits.proofs.Bits.{set-or, set-one}
 use Rattle.keeping.proofs.Told.{first-column, second-column}
 use Rattle.classing.specs.Both.{node_age_class, age_table, unsure_bit, wanted_by, wanted_to, AllWanted}
+use Rattle.plan.specs.declared.ColumnTouches.{ColumnTouches}
 
 or_left : (a b : Bool) → a ≡ true → (a || b) ≡ true
 or_left a b e = rw e
@@ -44,23 +44,23 @@ unsure-set : (class column : ℕ) → class ≡ unsure → is_set (unsure_bit cl
 unsure-set class column e =
     ap (λ (b : Bool). is_set (cond b (2 ^ column) 0) column) (eq-eqb class unsure e) ∙ set-one column column ∙ eq-eqb column column refl
 
-lower-wanted : (planned : PlannedRecord) (touch : ColumnTouch) (rest : List ColumnTouch) → touches_by planned ≡ touch ∷ rest → (first second : ℕ) → first ≡ unsure
+lower-wanted : (planned : Option ColumnTouches) (touch : ColumnTouch) (rest : List ColumnTouch) → touches_by planned ≡ touch ∷ rest → (first second : ℕ) → first ≡ unsure
     → is_set (wanted_by planned first second) touch.column ≡ true
-lower-wanted Step touch rest e first second u = absurd (let z : ◌≡◌ {A = ℕ} 0 1 = cc in omega arith)
-lower-wanted (Reference reference) touch rest e first second u =
-    subst (λ (column : ℕ). is_set (wanted_by (Reference reference) first second) column ≡ true) (first-column reference touch rest e)
+lower-wanted None touch rest e first second u = absurd (let z : ◌≡◌ {A = ℕ} 0 1 = cc in omega arith)
+lower-wanted (Some reference) touch rest e first second u =
+    subst (λ (column : ℕ). is_set (wanted_by (Some reference) first second) column ≡ true) (first-column reference touch rest e)
     (set-left (unsure_bit first reference.lower) (unsure_bit second reference.upper) reference.lower (unsure-set first reference.lower u))
 
-upper-wanted : (planned : PlannedRecord) (touch other : ColumnTouch) (rest : List ColumnTouch) → touches_by planned ≡ touch ∷ other ∷ rest → (first second : ℕ) → second ≡ unsure
+upper-wanted : (planned : Option ColumnTouches) (touch other : ColumnTouch) (rest : List ColumnTouch) → touches_by planned ≡ touch ∷ other ∷ rest → (first second : ℕ) → second ≡ unsure
     → is_set (wanted_by planned first second) other.column ≡ true
-upper-wanted Step touch other rest e first second u = absurd (let z : ◌≡◌ {A = ℕ} 0 1 = cc in omega arith)
-upper-wanted (Reference reference) touch other rest e first second u =
-    subst (λ (column : ℕ). is_set (wanted_by (Reference reference) first second) column ≡ true) (second-column reference touch other rest e).0
+upper-wanted None touch other rest e first second u = absurd (let z : ◌≡◌ {A = ℕ} 0 1 = cc in omega arith)
+upper-wanted (Some reference) touch other rest e first second u =
+    subst (λ (column : ℕ). is_set (wanted_by (Some reference) first second) column ≡ true) (second-column reference touch other rest e).0
     (set-right (unsure_bit first reference.lower) (unsure_bit second reference.upper) reference.upper (unsure-set second reference.upper u))
 
-pub none-wanted : (planned : PlannedRecord) (first second : ℕ) → (first ≡ unsure → ⊥) → (second ≡ unsure → ⊥) → 0 ≡ wanted_by planned first second
-none-wanted Step first second f s = refl
-none-wanted (Reference reference) first second f s = rw (ne_eqb first unsure f, ne_eqb second unsure s)
+pub none-wanted : (planned : Option ColumnTouches) (first second : ℕ) → (first ≡ unsure → ⊥) → (second ≡ unsure → ⊥) → 0 ≡ wanted_by planned first second
+none-wanted None first second f s = refl
+none-wanted (Some reference) first second f s = rw (ne_eqb first unsure f, ne_eqb second unsure s)
 
 -- Of no node, and of one more.
 pub none_yet : (plan classes : List ℕ) → 0 ≡ wanted_to plan classes 0

@@ -1,6 +1,6 @@
 -- What inner functions promise of a node's two classes: first by its ages alone, where what is kept still counts as unsure, and then by its sets too.
 -- Nothing here is a rule of the tool: `node_class` of the crate `classes` has rules 8.1 and 8.2, and laws lead there.
-use Rattle.std.specs.Prelude.{ℕ, zero, suc, ◌+◌, ◌*◌, ◌/◌, ◌%◌, ◌^◌, ◌<◌, true, false, cond, not, ◌&&◌, List, ◌∷◌, ◌≡◌, get_or, eqb}
+use Rattle.std.specs.Prelude.{ℕ, zero, suc, ◌+◌, ◌*◌, ◌/◌, ◌%◌, ◌^◌, ◌<◌, true, false, cond, not, ◌&&◌, List, ◌∷◌, ◌≡◌, get_or, eqb, None, Option, Some}
 use Rattle.std.specs.Int.Bits.{bit_or}
 use Rattle.lists.specs.Lists.{list_of}
 use Rattle.bits.specs.Bits.{is_set}
@@ -8,12 +8,11 @@ use Rattle.chart.specs.Geometry.{most_blocks, most_touches}
 use Rattle.cache.specs.Ages.{Ages, age_of, must_grown, may_grown}
 use Rattle.flow.specs.Flow.{Cell, blank, holds, cell_at}
 use Rattle.ages.specs.Plan.{ColumnTouch, Plan, columns_of, touches_in, after_touch}
-use Rattle.plan.specs.declared.PlannedRecord.{PlannedRecord}
-use Rattle.plan.specs.declared.PlannedRecord.TheVariants.{Step, Reference}
 use Rattle.plan.specs.Listed.{node_in}
 use Rattle.classes.specs.Class.{unreached, unsure, none, kept, class_by, classes_by}
 use Rattle.classing.specs.declared.Pair.{Pair}
 use Rattle.classing.specs.declared.Classes.{Classes}
+use Rattle.plan.specs.declared.ColumnTouches.{ColumnTouches}
 
 -- The ages at a place of two lists.
 abbrev pub pair_at : List ℕ → List ℕ → ℕ → Pair
@@ -52,9 +51,9 @@ age_table plan table =
 abbrev pub unsure_bit : ℕ → ℕ → ℕ
 unsure_bit class column = cond (eqb class unsure) (2 ^ column) 0
 
-abbrev pub wanted_by : PlannedRecord → ℕ → ℕ → ℕ
-wanted_by Step first second = 0
-wanted_by (Reference reference) first second = bit_or (unsure_bit first reference.lower) (unsure_bit second reference.upper)
+abbrev pub wanted_by : Option ColumnTouches → ℕ → ℕ → ℕ
+wanted_by None first second = 0
+wanted_by (Some reference) first second = bit_or (unsure_bit first reference.lower) (unsure_bit second reference.upper)
 
 unfoldable pub wanted_to : List ℕ → List ℕ → ℕ → ℕ
 wanted_to plan classes zero = 0

@@ -10,16 +10,17 @@ ghost use Rattle.std.specs.Prelude.{◌≡◌, ◌*◌, ◌≤◌, ◌<◌, leng
 ghost use Rattle.lists.specs.Lists.{written};
 ghost use Rattle.chart.specs.Geometry.{most_blocks, most_touches};
 ghost use Rattle.flow.specs.Flow.{cell_at};
-ghost use Rattle.plan.specs.Listed.{nodes_in, DrawnIn, plan_at};
+ghost use Rattle.plan.specs.Listed.{nodes_in};
+ghost use Rattle.plan.specs.AsPlan.{drawn_as};
 ghost use Rattle.tables.specs.Lent.{table_of};
-ghost use Rattle.tables.specs.Contract.{entry_table, RoomFor};
+ghost use Rattle.tables.specs.AsTable.{lent_as};
 ghost use Rattle.classes.specs.Class.{class_by, table_classes};
 ghost use Rattle.classing.specs.Both.{pair_at, class_after, both_by_ages, age_table};
 
 use crate::refining::refine_all;
 use crate::wanting::wanted_columns;
 use chart::Geometry;
-use plan::PlannedRecord;
+use tables::PlanTable;
 
 // The numbers of the classes (rule 8.1).
 pub const UNREACHED: u8 = 0;
@@ -92,28 +93,21 @@ pub(crate) struct Classes {
 
 // The classes of node n by its ages alone: unreached where it is not marked, none for a touch that it does not make, else those of its touches in
 // turn.
-fn classes_at(
-    columns: &[u8],
-    plan: &[u16],
-    must: &[u8],
-    may: &[u8],
-    marks: &[u8],
-    n: usize,
-) -> Classes
-    requires drawn_in { DrawnIn columns plan }
-    requires room_for { RoomFor plan.now must.now may.now marks.now }
-    requires n_bound { n < nodes_in plan.now }
-    ensures { result ≡ both_by_ages (plan_at columns plan) n (cell_at (table_of (plan_at columns plan) (entry_table must.now may.now marks.now)) n) }
+fn classes_at(table: PlanTable, n: usize) -> Classes
+    requires { n < nodes_in table.plan.numbers.now }
+    ensures { result ≡ both_by_ages (drawn_as table.entry.plan) n (cell_at (table_of (drawn_as table.entry.plan) (lent_as table.entry.table)) n) }
 {
-    if marks[n] == 0 {
+    let plan = table.plan;
+    let ages = table.table;
+    if ages.marks[n] == 0 {
         return Classes {
             first: UNREACHED,
             second: UNREACHED,
         };
     }
-    let node = plan::node_in(plan, n);
+    let node = plan.node(n);
     let planned = node.what;
-    let PlannedRecord::Reference(reference) = planned else {
+    let Some(reference) = planned else {
         return Classes {
             first: NONE,
             second: NONE,
@@ -121,17 +115,22 @@ fn classes_at(
     };
     let lower = reference.lower;
     let upper = reference.upper;
-    let row = n * plan::blocks_in(plan);
-    let before = pair_at(must, may, row + lower);
-    let other = pair_at(must, may, row + upper);
-    let first = class_of(columns[plan::MUST_LIMITS + lower], before.must, before.may);
+    let blocks = plan.blocks();
+    let row = n * blocks;
+    let before = pair_at(ages.must, ages.may, row + lower);
+    let other = pair_at(ages.must, ages.may, row + upper);
+    let first = class_of(
+        plan.columns[plan::MUST_LIMITS + lower],
+        before.must,
+        before.may,
+    );
     if lower == upper {
         return Classes {
             first: first,
             second: NONE,
         };
     }
-    let second = class_after(columns, lower, upper, before, other);
+    let second = class_after(plan.columns, lower, upper, before, other);
     Classes {
         first: first,
         second: second,
@@ -139,22 +138,13 @@ fn classes_at(
 }
 
 // Writes the two classes of each node by its ages alone over the start of `classes`, which keeps the rest.
-fn put_classes(
-    columns: &[u8],
-    plan: &[u16],
-    must: &[u8],
-    may: &[u8],
-    marks: &[u8],
-    classes: &mut [u8],
-)
-    requires drawn_in { DrawnIn columns plan }
-    requires room_for { RoomFor plan.now must.now may.now marks.now }
-    requires plan_in_bounds { most_touches * nodes_in plan.now ≤ length classes.old }
-    ensures { classes.new ≡ written (age_table (plan_at columns plan) (table_of (plan_at columns plan) (entry_table must.now may.now marks.now))) classes.old }
+fn put_classes(table: PlanTable, classes: &mut [u8])
+    requires { most_touches * nodes_in table.plan.numbers.now ≤ length classes.old }
+    ensures { classes.new ≡ written (age_table (drawn_as table.entry.plan) (table_of (drawn_as table.entry.plan) (lent_as table.entry.table))) classes.old }
 {
-    let nodes = plan::nodes_in(plan);
+    let nodes = table.plan.nodes();
     for n in 0..nodes {
-        let both = classes_at(columns, plan, must, may, marks, n);
+        let both = classes_at(table, n);
         let first = Geometry::TOUCHES * n;
         classes[first] = both.first;
         classes[first + 1] = both.second;
@@ -163,25 +153,17 @@ fn put_classes(
 
 // Writes the two classes of each node over the start of `classes`, which keeps the rest. What is kept is worked out only of the blocks of touches
 // that are unsure by their ages.
-pub fn write_classes(
-    columns: &[u8],
-    plan: &[u16],
-    must: &[u8],
-    may: &[u8],
-    marks: &[u8],
-    classes: &mut [u8],
-)
-    requires drawn_in { DrawnIn columns plan }
-    requires room_for { RoomFor plan.now must.now may.now marks.now }
-    requires plan_in_bounds { most_touches * nodes_in plan.now ≤ length classes.old }
-    ensures { classes.new ≡ written (table_classes (plan_at columns plan) (table_of (plan_at columns plan) (entry_table must.now may.now marks.now))) classes.old }
+pub fn write_classes(table: PlanTable, classes: &mut [u8])
+    requires { most_touches * nodes_in table.plan.numbers.now ≤ length classes.old }
+    ensures { classes.new ≡ written (table_classes (drawn_as table.entry.plan) (table_of (drawn_as table.entry.plan) (lent_as table.entry.table))) classes.old }
 {
-    put_classes(columns, plan, must, may, marks, classes);
-    let wanted = wanted_columns(plan, classes);
+    let plan = table.plan;
+    put_classes(table, classes);
+    let wanted = wanted_columns(plan.numbers, classes);
     if wanted == 0 {
         return;
     }
     let mut stays = [0u8; Geometry::CLASSES];
-    keeping::write_stays(columns, plan, wanted, &mut stays);
-    refine_all(&stays, classes, Geometry::TOUCHES * plan::nodes_in(plan));
+    keeping::write_stays(plan.columns, plan.numbers, wanted, &mut stays);
+    refine_all(&stays, classes, Geometry::TOUCHES * plan.nodes());
 }

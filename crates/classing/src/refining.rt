@@ -21,7 +21,7 @@ pub(crate) fn refine_all(stays: &[u8], classes: &mut [u8], count: usize)
     requires { (count ≤ length stays.now) × (count ≤ length classes.old) }
     ensures { classes.new ≡ patch classes.old 0 count (λ i. refined (get_or classes.old i 0) (get_or stays.now i 0)) }
 {
-    for i in 0..count {
-        classes[i] = refine(classes[i], stays[i]);
+    for (i, class) in classes[..count].iter_mut().enumerate() {
+        *class = refine(*class, stays[i]);
     }
 }

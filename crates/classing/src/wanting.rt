@@ -8,7 +8,7 @@ ghost use Rattle.classing.specs.Both.{unsure_bit, wanted_by, wanted_to};
 
 use crate::UNSURE;
 use chart::Geometry;
-use plan::PlannedRecord;
+use plan::ColumnTouches;
 
 // The bit of a column whose touch has this class, where that is unsure; else none.
 fn unsure_bit(class: u8, column: usize) -> u64
@@ -34,7 +34,7 @@ fn wanted_at(plan: &[u16], n: usize, first: u8, second: u8) -> u64
     }
     let node = plan::node_in(plan, n);
     let planned = node.what;
-    let PlannedRecord::Reference(reference) = planned else {
+    let Some(reference) = planned else {
         return 0;
     };
     unsure_bit(first, reference.lower) | unsure_bit(second, reference.upper)

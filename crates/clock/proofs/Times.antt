@@ -7,6 +7,7 @@ use native.Mathlib.Omega.{arith}
 use borrow.Author.Tests.{lt-ltb, le-ltb, ne_eqb}
 use lib.Dec.{ltb, eqb}
 use lib.Ieee.{Float, nan, inf, fin, up, down, lt, le, level}
+use Rattle.std.specs.Float.{float_is_finite}
 use Rattle.clock.specs.Clock.{zero_time, improper}
 
 -- of a number that is not negative, and of one that is, by their sizes
@@ -25,3 +26,10 @@ improper-is (inf false) = refl
 improper-is (inf true) = refl
 improper-is (fin false m e) = rw (zero-mul (down e)) (upright (m * up e * 1))
 improper-is (fin true m e) = rw (zero-mul (down e)) (turned (m * up e * 1))
+
+-- As the library's test of a number tells it.
+pub improper_by : (time : Float) → improper time ≡ (not (float_is_finite time) || lt time zero_time)
+unfolding improper float_is_finite
+improper_by nan = refl
+improper_by (inf sign) = refl
+improper_by (fin sign m e) = refl

@@ -4,8 +4,7 @@
 #![tactic(auto)]
 
 ghost use Rattle.std.specs.Prelude.{◌≡◌, ◌^◌, ◌<◌};
-ghost use Rattle.std.specs.Float.Ieee.{eq};
-ghost use Rattle.clock.specs.Clock.{zero_time, figure_of, improper, impossible, limits_impossible, meets};
+ghost use Rattle.clock.specs.Clock.{figure_of, improper, impossible, limits_impossible, meets};
 
 // Rule 17.1: how long a cycle takes, and what is added once, both in microseconds.
 #[derive(Clone, Copy)]
@@ -23,6 +22,7 @@ pub enum Deadline {
 }
 
 // The figure of a total: one rounded product with the period, and then one rounded sum with the overhead (rule 17.3).
+#[tactic(auto, unfolding(crate::specs::Clock::figure_of))]
 pub fn figure(total: u64, sheet: ClockSheet) -> f64
     requires { total < 2 ^ 53 }
     ensures { result ≡ figure_of sheet total }
@@ -31,19 +31,11 @@ pub fn figure(total: u64, sheet: ClockSheet) -> f64
 }
 
 // Whether a number is no time: a NaN, an infinity, or below zero. Either zero is a time.
+#[tactic(auto, using(crate::proofs::Times::improper_by))]
 fn is_improper(time: f64) -> bool
     ensures { result ≡ improper time }
 {
-    let infinity = f64::from_bits(0x7ff0000000000000);
-    let proper = (0.0 <= time) & (time < infinity);
-    !proper
-}
-
-// Whether it is 0.0 or -0.0.
-fn is_zero(time: f64) -> bool
-    ensures { result ≡ eq time zero_time }
-{
-    time == 0.0
+    !time.is_finite() || time < 0.0
 }
 
 // Whether a deadline has a limit that is no time, or a window that ends before it begins.
@@ -54,22 +46,19 @@ fn has_impossible_limits(deadline: Deadline) -> bool
         Deadline::None => false,
         Deadline::Latest(latest) => is_improper(latest),
         Deadline::Window { earliest, latest } => {
-            let early = is_improper(earliest);
-            let late = is_improper(latest);
-            early | late | (latest < earliest)
+            is_improper(earliest) || is_improper(latest) || latest < earliest
         }
     }
 }
 
-// Whether refusal 18 applies (rule 11.18).
+// Whether refusal 18 applies (rule 11.18). A period of either zero is impossible too.
 pub fn is_impossible(sheet: ClockSheet, deadline: Deadline) -> bool
     ensures { result ≡ impossible sheet deadline }
 {
-    let still = is_zero(sheet.period);
-    let period = is_improper(sheet.period);
-    let overhead = is_improper(sheet.overhead);
-    let limits = has_impossible_limits(deadline);
-    still | period | overhead | limits
+    sheet.period == 0.0
+        || is_improper(sheet.period)
+        || is_improper(sheet.overhead)
+        || has_impossible_limits(deadline)
 }
 
 // Whether a deadline is met by a low and a high figure (rule 17.4).
@@ -79,6 +68,6 @@ pub fn is_met(deadline: Deadline, low: f64, high: f64) -> bool
     match deadline {
         Deadline::None => true,
         Deadline::Latest(latest) => high <= latest,
-        Deadline::Window { earliest, latest } => (earliest <= low) & (high <= latest),
+        Deadline::Window { earliest, latest } => earliest <= low && high <= latest,
     }
 }

@@ -1,6 +1,7 @@
 -- Totals of costs, floors and ceilings of 16 bits are below 2^53: there are no more nodes than a chart may have, of two touches each, and each
 -- touch counts at most 65,535 times 65,535; and for each block, of which there are no more than a chart may have, the high total has at most 65,535
 -- more.
+use Rattle.std.specs.Prelude.{Err, None, Option, Some}
 use Prim.Native.Nat.{ℕ, suc, ◌*◌, ◌^◌, ◌≤◌, ◌<◌}
 use mathlib.Core.Bool.{Bool, true, false, cond}
 use mathlib.Core.List.{List, [], ◌∷◌}
@@ -13,8 +14,6 @@ use Rattle.lists.proofs.Choice.{none-applies, first-otherwise}
 use Rattle.lists.proofs.Sums.{sum-most, flags-most}
 use Rattle.chart.specs.declared.shape.Geometry.{Geometry}
 use Rattle.chart.specs.Geometry.{most_nodes, most_blocks, block_of}
-use Rattle.chart.specs.declared.records.Record.{Record}
-use Rattle.chart.specs.declared.records.Record.TheVariants.{Step, Reference}
 use Rattle.chart.specs.Record.{Touch, both_touched, touches_of}
 use Rattle.chart.specs.Chart.{Chart, Read, accepted, refused, read_chart, touches, block_count}
 use Rattle.chart.proofs.Accepted.{accepted-nodes, accepted-few}
@@ -26,10 +25,11 @@ use Rattle.ages.proofs.Charting.{touches-planned}
 use Rattle.classes.specs.Class.{whole_at, class_of, whole_after, classes_by}
 use Rattle.costs.specs.Costs.{Figures, rates_of, visit_cost, classes_at, high_rate, low_rate, total_by, kept_charge, charged_for, high_total, low_total}
 use Rattle.tables.specs.Lent.{Lent, table_of}
-use Rattle.totals.specs.declared.Totals.TheVariants.{Between, Refused}
-use Rattle.totals.specs.Totals.{total_cases, both_totals, total_read, totals}
+use Rattle.totals.specs.declared.Totals.{Totals}
+use Rattle.totals.specs.Totals.{total_cases, both_totals, total_read, totals, totals_between}
 use Rattle.totals.proofs.Summing.{low-rate-most, high-rate-most}
 use Rattle.deadline.specs.Widths.{SixteenBits}
+use Rattle.chart.specs.declared.records.Reference.{Reference}
 
 -- ---- what a visit counts
 
@@ -41,10 +41,10 @@ rates-most : (rate : ℕ → ℕ) (most : ℕ) → ((class : ℕ) → rate class
 rates-most rate most h [] = omega arith
 rates-most rate most h (class ∷ classes) = omega (arith, h class, rates-most rate most h classes, suc-mul (length classes) most)
 
-touched-few : (geometry : Geometry) (what : Record) → length (touches_of geometry what) ≤ 2
+touched-few : (geometry : Geometry) (what : Option Reference) → length (touches_of geometry what) ≤ 2
 unfolding touches_of
-touched-few geometry Step = omega arith
-touched-few geometry (Reference reference) = go reference.write (block_of geometry reference.address) (block_of geometry reference.last)
+touched-few geometry None = omega arith
+touched-few geometry (Some reference) = go reference.write (block_of geometry reference.address) (block_of geometry reference.last)
   where
     go : (write : Bool) (lower upper : ℕ) → length (both_touched write lower upper) ≤ 2
     go write lower upper = either (eqb lower upper)
@@ -82,6 +82,14 @@ charge-most chart table figures few =
 
 -- ---- whatever was answered
 
+abbrev pub both : ℕ → ℕ → Totals
+both low high = record { low = low; high = high }
+
+-- The two totals of an answer are those of another that is the same.
+pub both-same : {low high low' high' : ℕ} → totals_between low high ≡ totals_between low' high' → (low ≡ low') × (high ≡ high')
+both-same {low = low} {high = high} {low' = low'} {high' = high'} is =
+    let same : both low high ≡ both low' high' = cc in (ap (λ (t : Totals). t.low) same, ap (λ (t : Totals). t.high) same)
+
 module _ (chart : Chart) (table : List (Cell Ages)) (figures : Figures) (bits : SixteenBits figures) (nodes : chart.header.nodes ≤ most_nodes) (blocks : block_count chart ≤ most_blocks) where
   low_below : low_total (plan_of chart) table figures < 2 ^ 53
   low_below =
@@ -93,23 +101,18 @@ module _ (chart : Chart) (table : List (Cell Ages)) (figures : Figures) (bits : 
       let rate = high-rate-most figures.costs (omega (arith, bits.hit)) (omega (arith, bits.miss)) in
       omega (arith, total-most chart table (high_rate figures.costs) figures.ceilings rate bits.ceilings, charge-most chart table figures bits.miss)
 
-pub totals_below : (bytes : List ℕ) (lent : Lent) (figures : Figures) (low high : ℕ) → Between low high ≡ totals bytes lent figures → SixteenBits figures → (low < 2 ^ 53) × (high < 2 ^ 53)
+pub totals_below : (bytes : List ℕ) (lent : Lent) (figures : Figures) (low high : ℕ) → totals_between low high ≡ totals bytes lent figures → SixteenBits figures → (low < 2 ^ 53) × (high < 2 ^ 53)
 unfolding totals
 totals_below bytes lent figures low high e bits = go (read_chart bytes) refl e
   where
-    go : (read : Read) → read_chart bytes ≡ read → Between low high ≡ total_read lent figures read → (low < 2 ^ 53) × (high < 2 ^ 53)
+    go : (read : Read) → read_chart bytes ≡ read → totals_between low high ≡ total_read lent figures read → (low < 2 ^ 53) × (high < 2 ^ 53)
     go (refused refusal) r g = let z : ◌≡◌ {A = ℕ} 0 1 = cc in absurd (omega arith)
     go (accepted chart) r g =
         let cases = total_cases (plan_of chart) lent figures in
         let sums = both_totals (plan_of chart) lent figures in
-        let none = none-applies Refused cases sums (Between low high) (λ x q. let z : ◌≡◌ {A = ℕ} 0 1 = cc in omega arith) (sym g) in
-        let is : Between low high ≡ sums = g ∙ first-otherwise Refused cases sums none in
+        let none = none-applies Err cases sums (totals_between low high) (λ x q. let z : ◌≡◌ {A = ℕ} 0 1 = cc in omega arith) (sym g) in
+        let is : totals_between low high ≡ sums = g ∙ first-otherwise Err cases sums none in
         let lows = low_below chart (table_of (plan_of chart) lent) figures bits (accepted-nodes bytes chart r) (accepted-few bytes chart r) in
         let highs = high-below chart (table_of (plan_of chart) lent) figures bits (accepted-nodes bytes chart r) (accepted-few bytes chart r) in
-        (subst (λ (k : ℕ). k < 2 ^ 53) (sym (low_same is)) lows, subst (λ (k : ℕ). k < 2 ^ 53) (sym (high_same is)) highs)
-      where
-        low_same : Between low high ≡ both_totals (plan_of chart) lent figures → low ≡ low_total (plan_of chart) (table_of (plan_of chart) lent) figures
-        low_same is = cc
-
-        high_same : Between low high ≡ both_totals (plan_of chart) lent figures → high ≡ high_total (plan_of chart) (table_of (plan_of chart) lent) figures
-        high_same is = cc
+        let same = both-same is in
+        (subst (λ (k : ℕ). k < 2 ^ 53) (sym same.0) lows, subst (λ (k : ℕ). k < 2 ^ 53) (sym same.1) highs)

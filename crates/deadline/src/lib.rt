@@ -10,37 +10,35 @@ ghost use Rattle.deadline.specs.Widths.{SixteenBits};
 
 use clock::{ClockSheet, Deadline};
 use refusals::Refusal;
-use totals::Totals;
 
-// Whether the deadline is met, with the low and the high figure; or a refusal.
+// Whether the deadline is met, with the low and the high figure.
 #[derive(Clone, Copy)]
-pub enum Judged {
-    Met { low: f64, high: f64 },
-    NotMet { low: f64, high: f64 },
-    Refused(Refusal),
+pub struct Judged {
+    pub met: bool,
+    pub low: f64,
+    pub high: f64,
 }
 
 // What is answered for two totals: refusal 18, or the verdict with their figures.
-fn judge_totals(low: u64, high: u64, sheet: ClockSheet, deadline: Deadline) -> Judged
+fn judge_totals(
+    low: u64,
+    high: u64,
+    sheet: ClockSheet,
+    deadline: Deadline,
+) -> Result<Judged, Refusal>
     requires { (low < 2 ^ 53) × (high < 2 ^ 53) }
     ensures { result ≡ judged_by sheet deadline low high }
 {
     if clock::is_impossible(sheet, deadline) {
-        return Judged::Refused(Refusal::ImpossibleTimes);
+        return Err(Refusal::ImpossibleTimes);
     }
     let least = clock::figure(low, sheet);
     let most = clock::figure(high, sheet);
-    if clock::is_met(deadline, least, most) {
-        Judged::Met {
-            low: least,
-            high: most,
-        }
-    } else {
-        Judged::NotMet {
-            low: least,
-            high: most,
-        }
-    }
+    Ok(Judged {
+        met: clock::is_met(deadline, least, most),
+        low: least,
+        high: most,
+    })
 }
 
 // Answers for any bytes, lent table, costs, floors, ceilings, clock sheet and deadline: the verdict and both figures (rules 17.3 and 17.4), or the
@@ -57,14 +55,11 @@ pub fn judge(
     ceilings: &[u16],
     sheet: ClockSheet,
     deadline: Deadline,
-) -> Judged
+) -> Result<Judged, Refusal>
     ensures value { result ≡ judged chart.now (entry_table must.now may.now marks.now) (entry_figures hit miss floors ceilings) sheet deadline }
     ensures result_value { judged_say result ≡ judge_says chart.now (entry_table must.now may.now marks.now) (entry_figures hit miss floors ceilings) sheet deadline }
     ensures sixteen_bits { SixteenBits (entry_figures hit miss floors ceilings) }
 {
-    let answer = totals::total(chart, must, may, marks, hit, miss, floors, ceilings);
-    match answer {
-        Totals::Between { low, high } => judge_totals(low, high, sheet, deadline),
-        Totals::Refused(refusal) => Judged::Refused(refusal),
-    }
+    let totals = totals::total(chart, must, may, marks, hit, miss, floors, ceilings)?;
+    judge_totals(totals.low, totals.high, sheet, deadline)
 }

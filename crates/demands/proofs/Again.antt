@@ -1,4 +1,5 @@
 -- What was read and taken apart is written again as the same bytes.
+use Rattle.std.specs.Prelude.{Ok, Some}
 use Prim.Native.Nat.{ℕ, ◌≤◌, ◌<◌}
 use mathlib.Core.Bool.{Bool, true}
 use mathlib.Core.List.{List}
@@ -20,9 +21,7 @@ use Rattle.chart.specs.Record.{record_keeps}
 use Rattle.chart.specs.Chart.{Chart, accepted, refused, field_cases, records_in, chart_in, read_chart, chart_cases, broken_at, first_broken, record_cases}
 use Rattle.chart.specs.Bytes.{AreBytes}
 use Rattle.chart.proofs.Accepted.{accepted-chart, accepted-length, accepted-nodes}
-use Rattle.fields.specs.declared.NodeRead.TheVariants.{Node}
 use Rattle.fields.specs.Fields.{node_read}
-use Rattle.writer.specs.declared.writing.Wrote.TheVariants.{Bytes}
 use Rattle.writer.specs.Packing.{chart_bytes}
 use Rattle.writer.specs.Given.{header_given, listed, all_long, AllLong}
 use Rattle.writer.specs.Taken.{heading_of, fields_of, lists_of}
@@ -83,8 +82,8 @@ module _ (bytes : List ℕ) (chart : Chart) (read : read_chart bytes ≡ accepte
   listed_in : (n : ℕ) → n < chart.header.nodes → listed (lists_of chart) n ≡ records_in bytes n
   listed_in n h = listed-taken chart n h ∙ node-taken n h
 
-  pub nodes_again : (n : ℕ) → n < chart.header.nodes → node_read bytes n ≡ Node (listed (lists_of chart) n)
-  nodes_again n h = node-there bytes chart n read h ∙ ap Node (sym (listed_in n h))
+  pub nodes_again : (n : ℕ) → n < chart.header.nodes → node_read bytes n ≡ Ok (Some (listed (lists_of chart) n))
+  nodes_again n h = node-there bytes chart n read h ∙ ap (λ (f : RecordFields). Ok (Some f)) (sym (listed_in n h))
 
   header-taken : header_given (heading_of chart.header) ≡ fields_in bytes
   header-taken =
@@ -139,7 +138,7 @@ module _ (bytes : List ℕ) (chart : Chart) (read : read_chart bytes ≡ accepte
         (sym (made-read (heading_of chart.header) (lists_of chart) chart.header.nodes (lists-are chart) fit-again.header fit-again.records) ∙ ap read_chart same_bytes ∙ read))
         (le-ltb (length lent) (chart_length chart.header.nodes) (omega (arith, long-in)), tt)
 
-    pub writes_again : (lent : List ℕ) → length bytes ≤ length lent → wrote (heading_of chart.header) (lists_of chart) lent ≡ record { answer = Bytes (length bytes); chart = written bytes lent }
+    pub writes_again : (lent : List ℕ) → length bytes ≤ length lent → wrote (heading_of chart.header) (lists_of chart) lent ≡ record { answer = Ok (length bytes); chart = written bytes lent }
     writes_again lent room =
         none_written (heading_of chart.header) (lists_of chart) lent (none-again lent room)
-        ∙ λ i. record { answer = Bytes (sym long-in i); chart = written (same_bytes i) lent }
+        ∙ λ i. record { answer = Ok (sym long-in i); chart = written (same_bytes i) lent }

@@ -1,4 +1,5 @@
 -- The writer refuses and accepts what is given as the reader does the bytes of it.
+use Rattle.std.specs.Prelude.{Err, Ok}
 use Prim.Native.Nat.{ℕ, ◌+◌, ◌*◌, ◌≤◌}
 use mathlib.Core.List.{List}
 use mathlib.Core.Logic.{◌⊎◌, inl, inr, ⊎_elim}
@@ -15,8 +16,6 @@ use Rattle.chart.specs.Layout.{chart_length}
 use Rattle.chart.specs.Chart.{Chart, accepted, refused, field_cases, read_chart}
 use Rattle.chart.proofs.Bytes.{header-bytes, record-bytes}
 use Rattle.writer.specs.declared.heading.Heading.{Heading}
-use Rattle.writer.specs.declared.writing.Wrote.TheVariants.{Bytes}
-use Rattle.writer.specs.declared.writing.Wrote.TheVariants.{Refused as WriterRefused}
 use Rattle.writer.specs.Packing.{chart_bytes}
 use Rattle.writer.specs.Given.{NodeLists, header_given, listed, all_long, AllLong}
 use Rattle.writer.specs.Writer.{room_cases, refuse_writing, wrote}
@@ -41,7 +40,7 @@ module _ (heading : Heading) (lists : NodeLists) (lent : List ℕ) (count : ℕ)
       (first-front given (room_cases heading.nodes lent) refusal
       (applies-first refused given (accepted (chart_given heading lists)) refusal (λ a b q. cc) (λ q. let z : ◌≡◌ {A = ℕ} 0 1 = cc in omega arith) (sym by-rules ∙ e)))
 
-  pub refused_alike : (refusal : Refusal) → (wrote heading lists lent).answer ≡ WriterRefused refusal → (refusal ≡ ShortBuffer) ⊎ (read_chart made ≡ refused refusal)
+  pub refused_alike : (refusal : Refusal) → (wrote heading lists lent).answer ≡ Err refusal → (refusal ≡ ShortBuffer) ⊎ (read_chart made ≡ refused refusal)
   refused_alike refusal e =
       ⊎_elim
       (λ (f : FirstApplies given refusal). inr (by-rules ∙ first-applies refused given (accepted (chart_given heading lists)) refusal f))
@@ -52,13 +51,13 @@ module _ (heading : Heading) (lists : NodeLists) (lent : List ℕ) (count : ℕ)
       room (inl f) = sym f.1
       room (inr f) = absurd f.1
 
-  pub accepts_alike : (chart : Chart) → read_chart made ≡ accepted chart → 8 + 8 * count ≤ length lent → wrote heading lists lent ≡ record { answer = Bytes (8 + 8 * count); chart = written made lent }
+  pub accepts_alike : (chart : Chart) → read_chart made ≡ accepted chart → 8 + 8 * count ≤ length lent → wrote heading lists lent ≡ record { answer = Ok (8 + 8 * count); chart = written made lent }
   accepts_alike chart e room =
       let none = none-applies refused given (accepted (chart_given heading lists)) (accepted chart) (λ x q. let z : ◌≡◌ {A = ℕ} 0 1 = cc in omega arith) (sym by-rules ∙ e) in
       let same : heading.nodes ≡ count = sym (long-lists heading.nodes lists (not-false _ none.1.1.1.1.1.1.0)).kinds ∙ long.kinds in
       none_written heading lists lent
       (none_both given (room_cases heading.nodes lent) none (le-ltb (length lent) (chart_length heading.nodes) (omega (arith, same)), tt))
-      ∙ λ i. record { answer = Bytes (chart_length (same i)); chart = written (chart_bytes (header_given heading) (listed lists) (same i)) lent }
+      ∙ λ i. record { answer = Ok (chart_length (same i)); chart = written (chart_bytes (header_given heading) (listed lists) (same i)) lent }
 
   pub makes : Makes heading lists count made
   makes =

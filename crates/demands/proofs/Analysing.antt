@@ -18,11 +18,11 @@ use Rattle.tables.specs.Lent.{Lent, ages_used, marks_used, lent_of}
 use Rattle.tables.specs.Fitting.{TableFits}
 use Rattle.tables.proofs.Laid.{must-laid, may-laid, marks-laid, long-enough}
 use Rattle.tables.proofs.Fitting.{after_passes-fits}
-use Rattle.analysis.specs.declared.Analysed.TheVariants.{Settled, Unsettled, Refused}
 use Rattle.classes.specs.Class.{table_classes}
 use Rattle.classes.proofs.Places.{classes_long}
 use Rattle.analysis.proofs.Room.{room-parts, parts-room}
-use Rattle.analysis.specs.Analysis.{Buffers, Left, table_in, classes_used, buffers_short, fill, zero_lent, filled_by, refuse, finish, analyse_read, analysed}
+use Rattle.analysis.specs.declared.SettledAfter.{SettledAfter}
+use Rattle.analysis.specs.Analysis.{Buffers, Left, table_in, classes_used, buffers_short, fill, zero_lent, filled_by, refuse, finish, analyse_read, analysed, analysis_refused, settled_after, unsettled}
 use Rattle.demands.specs.Demand1.{AllChange, AnalysisRefusals, SameLengths}
 use Rattle.demands.proofs.Checking.{room-short, short-room}
 use Rattle.demands.specs.Inner.{Done}
@@ -40,33 +40,42 @@ module _ (bytes : List ℕ) (chart : Chart) (allowance : ℕ) (lent : Buffers) (
   answered-outcome : buffers_short (plan_of chart) lent ≡ false → (o : Outcome Ages) → settle (ages_flow chart) allowance ≡ o → analysed bytes allowance lent ≡ finish (plan_of chart) chart.blocks allowance lent o
   answered-outcome e o q = accepted-analysed ∙ (rw (e, q))
 
-  pub settled-done : (passes blocks : ℕ) → (analysed bytes allowance lent).answer ≡ Settled passes blocks → Done bytes chart allowance lent passes blocks
+  -- Two answers that are the same settled after as many passes, over as many blocks.
+  abbrev done : ℕ → ℕ → SettledAfter
+  done k b = record { passes = k; blocks = b }
+
+  settled-same : {k passes b blocks : ℕ} → settled_after k b ≡ settled_after passes blocks → (k ≡ passes) × (b ≡ blocks)
+  settled-same {k = k} {passes = passes} {b = b} {blocks = blocks} e =
+      let same : done k b ≡ done passes blocks = cc in (ap (λ (s : SettledAfter). s.passes) same, ap (λ (s : SettledAfter). s.blocks) same)
+
+  pub settled-done : (passes blocks : ℕ) → (analysed bytes allowance lent).answer ≡ settled_after passes blocks → Done bytes chart allowance lent passes blocks
   unfolding finish
   settled-done passes blocks e = go (buffers_short (plan_of chart) lent) refl (settle (ages_flow chart) allowance) refl
     where
       go : (short : Bool) → buffers_short (plan_of chart) lent ≡ short → (o : Outcome Ages) → settle (ages_flow chart) allowance ≡ o → Done bytes chart allowance lent passes blocks
       go true s o q =
-          let says : (analysed bytes allowance lent).answer ≡ Refused ShortBuffer = ap (λ (l : Left). l.answer) (answered-short s) in
+          let says : (analysed bytes allowance lent).answer ≡ analysis_refused ShortBuffer = ap (λ (l : Left). l.answer) (answered-short s) in
           let z : ◌≡◌ {A = ℕ} 0 1 = cc in
           absurd (omega arith)
       go false s spent q =
-          let says : (analysed bytes allowance lent).answer ≡ Unsettled allowance (block_count chart) = ap (λ (l : Left). l.answer) (answered-outcome s spent q) in
+          let says : (analysed bytes allowance lent).answer ≡ unsettled allowance (block_count chart) = ap (λ (l : Left). l.answer) (answered-outcome s spent q) in
           let z : ◌≡◌ {A = ℕ} 0 1 = cc in
           absurd (omega arith)
       go false s (settled k U) q =
-          let says : (analysed bytes allowance lent).answer ≡ Settled k (block_count chart) = ap (λ (l : Left). l.answer) (answered-outcome s (settled k U) q) in
-          let made : k ≡ passes = cc in
-          let of : blocks ≡ block_count chart = cc in
+          let says : (analysed bytes allowance lent).answer ≡ settled_after k (block_count chart) = ap (λ (l : Left). l.answer) (answered-outcome s (settled k U) q) in
+          let same = settled-same (sym says ∙ e) in
+          let made : k ≡ passes = same.0 in
+          let of : blocks ≡ block_count chart = sym same.1 in
           record {
             room = s;
             table = U;
             outcome = q ∙ ap (λ (n : ℕ). settled n U) made;
             count_is = of;
-            left = answered-outcome s (settled k U) q ∙ ap (λ (n : ℕ). record { answer = Settled n (block_count chart); buffers = filled_by (plan_of chart) chart.blocks U lent }) made;
+            left = answered-outcome s (settled k U) q ∙ ap (λ (n : ℕ). record { answer = settled_after n (block_count chart); buffers = filled_by (plan_of chart) chart.blocks U lent }) made;
           }
 
   pub done-settled : buffers_short (plan_of chart) lent ≡ false → (k : ℕ) (U : List (Cell Ages)) → settle (ages_flow chart) allowance ≡ settled k U
-      → (analysed bytes allowance lent).answer ≡ Settled k (block_count chart)
+      → (analysed bytes allowance lent).answer ≡ settled_after k (block_count chart)
   unfolding finish
   done-settled room k U q = ap (λ (l : Left). l.answer) (answered-outcome room (settled k U) q)
 
@@ -84,7 +93,7 @@ module _ (bytes : List ℕ) (chart : Chart) (allowance : ℕ) (lent : Buffers) (
       }
     where
       go : buffers_short (plan_of chart) lent ≡ false → (AllChange chart allowance → ⊥)
-          → (o : Outcome Ages) → settle (ages_flow chart) allowance ≡ o → (passes : ℕ) × ((analysed bytes allowance lent).answer ≡ Settled passes (block_count chart))
+          → (o : Outcome Ages) → settle (ages_flow chart) allowance ≡ o → (passes : ℕ) × ((analysed bytes allowance lent).answer ≡ settled_after passes (block_count chart))
       go room some (settled k U) q = (k, done-settled room k U q)
       go room some spent q = absurd (some (settle-spends (ages_flow chart) allowance q))
 

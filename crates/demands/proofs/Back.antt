@@ -1,4 +1,5 @@
 -- What was written reads back as what was given.
+use Rattle.std.specs.Prelude.{Ok, Some}
 use Prim.Native.Nat.{ℕ, ◌≤◌, ◌<◌}
 use mathlib.Core.Bool.{Bool, true}
 use mathlib.Core.List.{List, [], ◌∷◌}
@@ -15,9 +16,7 @@ use Rattle.chart.specs.Header.{header_of, header_cases, fields_in}
 use Rattle.chart.specs.Record.{record_keeps}
 use Rattle.chart.specs.Chart.{accepted, refused, field_cases, records_in, read_chart, broken_at, first_broken, record_cases}
 use Rattle.chart.proofs.Bytes.{header-bytes, record-bytes}
-use Rattle.fields.specs.declared.NodeRead.TheVariants.{Node}
 use Rattle.writer.specs.declared.heading.Heading.{Heading}
-use Rattle.writer.specs.declared.writing.Wrote.TheVariants.{Bytes}
 use Rattle.writer.specs.Packing.{chart_bytes}
 use Rattle.writer.specs.Given.{NodeLists, header_given, listed, all_long, AllLong}
 use Rattle.writer.specs.Writer.{WriteLeft, room_cases, wrote}
@@ -28,7 +27,7 @@ use Rattle.writer.proofs.Again.{start_back}
 use Rattle.demands.specs.RoundTrip.{chart_given, AllFit, ReadsBack}
 use Rattle.demands.proofs.Writing.{written_none, none_written, node-there, fields-refusals}
 
-module _ (heading : Heading) (lists : NodeLists) (lent : List ℕ) (count : ℕ) (wrote_it : (wrote heading lists lent).answer ≡ Bytes count) where
+module _ (heading : Heading) (lists : NodeLists) (lent : List ℕ) (count : ℕ) (wrote_it : (wrote heading lists lent).answer ≡ Ok count) where
   abbrev given : List (Case Refusal)
   given = field_cases (header_given heading) (all_long heading.nodes lists) (listed lists)
 
@@ -59,7 +58,7 @@ module _ (heading : Heading) (lists : NodeLists) (lent : List ℕ) (count : ℕ)
 
   taken : take count (wrote heading lists lent).chart ≡ bytes
   taken =
-      let same : Bytes count ≡ Bytes (chart_length heading.nodes) = sym wrote_it ∙ ap (λ (left : WriteLeft). left.answer) (none_written heading lists lent (written_none heading lists lent count wrote_it)) in
+      let same : Ok count ≡ Ok (chart_length heading.nodes) = sym wrote_it ∙ ap (λ (left : WriteLeft). left.answer) (none_written heading lists lent (written_none heading lists lent count wrote_it)) in
       let is : count ≡ chart_length heading.nodes = cc in
       ap (λ (left : WriteLeft). take count left.chart) (none_written heading lists lent (written_none heading lists lent count wrote_it))
       ∙ ap (λ (n : ℕ). take n (written bytes lent)) (is ∙ sym (made-length (header_given heading) (listed lists) heading.nodes))
@@ -88,7 +87,7 @@ module _ (heading : Heading) (lists : NodeLists) (lent : List ℕ) (count : ℕ)
         records_said = λ n h. sym (record-bytes bytes small n) ∙ record-said n h;
         read = read-given;
         header = λ i. heading.line ∷ heading.sets ∷ heading.ways ∷ start_back heading.start start-said i ∷ heading.nodes ∷ heading.entry ∷ [];
-        nodes = λ n h. node-there bytes (chart_given heading lists) n read-given h ∙ ap Node (record-said n h);
+        nodes = λ n h. node-there bytes (chart_given heading lists) n read-given h ∙ (λ i. Ok (Some (record-said n h i)));
         blocks = λ spare room. fields-refusals.listed_blocks bytes (chart_given heading lists) spare read-given room;
       }
 

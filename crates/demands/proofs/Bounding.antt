@@ -1,5 +1,6 @@
 -- The bound of a certificate, of an accepted chart: when each refusal is given and when the bound is, and that nothing counts beyond the used parts
 -- of a table.
+use Rattle.std.specs.Prelude.{Err, Ok, Result}
 use Prim.Native.Nat.{ℕ, ◌+◌, ◌≤◌, ◌<◌}
 use mathlib.Core.Bool.{Bool, true, false, not, ◌||◌, false≢true}
 use mathlib.Core.List.{List, [], ◌∷◌}
@@ -28,16 +29,12 @@ use Rattle.ages.specs.Charted.{plan_of}
 use Rattle.ages.proofs.Charting.{chart-sound}
 use Rattle.tables.specs.Lent.{Lent, table_short, SameUsed, TablePasses}
 use Rattle.tables.proofs.Used.{used-mark, used-table}
-use Rattle.checker.specs.declared.Checked.{Checked}
-use Rattle.checker.specs.declared.Checked.TheVariants as checker
 use Rattle.checker.specs.Checker.{marked, passing, checked}
 use Rattle.checker.specs.Inner.{answer_of}
 use Rattle.checker.proofs.Answers.{checked-accepted, short-only, no-only}
 use Rattle.checker.proofs.Deciding.{passing-yes, yes-long, yes-passing}
 use Rattle.checker.proofs.Used.{passing-used}
 use Rattle.costs.specs.Costs.{visit_cost, classes_at, kept_charge}
-use Rattle.certificate.specs.declared.Bounded.{Bounded}
-use Rattle.certificate.specs.declared.Bounded.TheVariants.{At, Refused}
 use Rattle.certificate.specs.Bound.{Question, side_rate, claim_of, loads_of, side_bound, bound_of, failing_at, question_cases, bound_cases, bound_read, bounded, bounded_say, bound_says}
 use Rattle.demands.specs.Bounding.{LengthsFit, NumbersFit, HoldsAt, Boundable, BoundRefusals, Bounding}
 use Rattle.demands.proofs.Refusals.{reading-refusals}
@@ -52,23 +49,23 @@ module _ (bytes : List ℕ) (chart : Chart) (table : Lent) (question : Question)
   abbrev plan : Plan
   plan = plan_of chart
 
-  pub bounded-accepted : bounded bytes table question ≡ first_case Refused (bound_cases plan table question) (bound_of plan table question)
+  pub bounded-accepted : bounded bytes table question ≡ first_case Err (bound_cases plan table question) (bound_of plan table question)
   unfolding bounded
   bounded-accepted = rw read
 
   -- Where a bound is given, no rule applies, and it is the bound; where a refusal is, its rule is the first.
-  pub given-none : (bound : ℕ) → bounded bytes table question ≡ At bound → NoneApplies (bound_cases plan table question)
+  pub given-none : (bound : ℕ) → bounded bytes table question ≡ Ok bound → NoneApplies (bound_cases plan table question)
   given-none bound e =
-      none-applies Refused (bound_cases plan table question) (bound_of plan table question) (At bound) (λ x q. let z : ◌≡◌ {A = ℕ} 0 1 = cc in omega arith) (sym bounded-accepted ∙ e)
+      none-applies Err (bound_cases plan table question) (bound_of plan table question) (Ok bound) (λ x q. let z : ◌≡◌ {A = ℕ} 0 1 = cc in omega arith) (sym bounded-accepted ∙ e)
 
-  pub given-bound : (bound : ℕ) → bounded bytes table question ≡ At bound → bound ≡ side_bound question.side plan table question
+  pub given-bound : (bound : ℕ) → bounded bytes table question ≡ Ok bound → bound ≡ side_bound question.side plan table question
   given-bound bound e =
-      let is = sym e ∙ bounded-accepted ∙ first-otherwise Refused (bound_cases plan table question) (bound_of plan table question) (given-none bound e) in
+      let is = sym e ∙ bounded-accepted ∙ first-otherwise Err (bound_cases plan table question) (bound_of plan table question) (given-none bound e) in
       cc
 
-  given-first : (refusal : Refusal) → bounded bytes table question ≡ Refused refusal → FirstApplies (bound_cases plan table question) refusal
+  given-first : (refusal : Refusal) → bounded bytes table question ≡ Err refusal → FirstApplies (bound_cases plan table question) refusal
   given-first refusal e =
-      applies-first Refused (bound_cases plan table question) (bound_of plan table question) refusal (λ a b q. cc) (λ q. let z : ◌≡◌ {A = ℕ} 0 1 = cc in omega arith) (sym bounded-accepted ∙ e)
+      applies-first Err (bound_cases plan table question) (bound_of plan table question) refusal (λ a b q. cc) (λ q. let z : ◌≡◌ {A = ℕ} 0 1 = cc in omega arith) (sym bounded-accepted ∙ e)
 
   -- What the rules turned round say, and the other way.
   pub none-boundable : NoneApplies (bound_cases plan table question) → Boundable chart table question
@@ -100,35 +97,35 @@ module _ (bytes : List ℕ) (chart : Chart) (table : Lent) (question : Question)
   )
 
   -- What the checker answers decides the first two rules.
-  checked-cases : (answer : Checked) → checked bytes table ≡ answer → answer_of (table_short plan table) (passing plan table) ≡ answer
+  checked-cases : (answer : Result Bool Refusal) → checked bytes table ≡ answer → answer_of (table_short plan table) (passing plan table) ≡ answer
   checked-cases answer e = sym (checked-accepted bytes chart table read) ∙ e
 
-  first-refused : (refusal : Refusal) → FirstApplies (bound_cases plan table question) refusal → bounded bytes table question ≡ Refused refusal
-  first-refused refusal f = bounded-accepted ∙ first-applies Refused (bound_cases plan table question) (bound_of plan table question) refusal f
+  first-refused : (refusal : Refusal) → FirstApplies (bound_cases plan table question) refusal → bounded bytes table question ≡ Err refusal
+  first-refused refusal f = bounded-accepted ∙ first-applies Err (bound_cases plan table question) (bound_of plan table question) refusal f
 
-  short-refused : checked bytes table ≡ checker.Refused ShortBuffer → bounded bytes table question ≡ Refused ShortBuffer
+  short-refused : checked bytes table ≡ Err ShortBuffer → bounded bytes table question ≡ Err ShortBuffer
   short-refused e =
-      first-refused ShortBuffer (inl ((short-only ShortBuffer (table_short plan table) (passing plan table) (checked-cases (checker.Refused ShortBuffer) e)).0, refl))
+      first-refused ShortBuffer (inl ((short-only ShortBuffer (table_short plan table) (passing plan table) (checked-cases (Err ShortBuffer) e)).0, refl))
 
-  failing-refused : checked bytes table ≡ checker.No → bounded bytes table question ≡ Refused NotPassing
+  failing-refused : checked bytes table ≡ Ok false → bounded bytes table question ≡ Err NotPassing
   failing-refused e =
-      let both = no-only (table_short plan table) (passing plan table) (checked-cases checker.No e) in
+      let both = no-only (table_short plan table) (passing plan table) (checked-cases (Ok false) e) in
       first-refused NotPassing (inr (both.0, inl (ap not both.1, refl)))
 
   -- And the rules after them, each where those before it do not apply.
   module _ (passes : TablePasses plan table) where
     -- A refusal of the question is the first that applies.
-    asked-refused : (refusal : Refusal) → FirstApplies (question_cases plan table question) refusal → bounded bytes table question ≡ Refused refusal
+    asked-refused : (refusal : Refusal) → FirstApplies (question_cases plan table question) refusal → bounded bytes table question ≡ Err refusal
     asked-refused refusal f = first-refused refusal (inr (yes-long plan table passes, inr (ap not (yes-passing plan table passes), f)))
 
-    costs-refused : question.costs.miss < question.costs.hit → bounded bytes table question ≡ Refused MissBelowHit
+    costs-refused : question.costs.miss < question.costs.hit → bounded bytes table question ≡ Err MissBelowHit
     costs-refused h = asked-refused MissBelowHit (inl (lt-ltb question.costs.miss question.costs.hit h, refl))
 
     module _ (cheap : question.costs.hit ≤ question.costs.miss) where
       costs-fit : ltb question.costs.miss question.costs.hit ≡ false
       costs-fit = le-ltb question.costs.miss question.costs.hit cheap
 
-      lengths-refused : (LengthsFit chart.header.nodes question.facts question.certificate → ⊥) → bounded bytes table question ≡ Refused FactsLength
+      lengths-refused : (LengthsFit chart.header.nodes question.facts question.certificate → ⊥) → bounded bytes table question ≡ Err FactsLength
       lengths-refused unfit =
           asked-refused FactsLength (inr (costs-fit, inl (never _ (λ e. unfit (lengths-only chart.header.nodes question.facts question.certificate e)), refl)))
 
@@ -136,7 +133,7 @@ module _ (bytes : List ℕ) (chart : Chart) (table : Lent) (question : Question)
         lengths-pass : not (lengths_fit chart.header.nodes question.facts question.certificate) ≡ false
         lengths-pass = ap not (lengths-given chart.header.nodes question.facts question.certificate long)
 
-        numbers-refused : (NumbersFit question.facts question.certificate → ⊥) → bounded bytes table question ≡ Refused NumberOutOfRange
+        numbers-refused : (NumbersFit question.facts question.certificate → ⊥) → bounded bytes table question ≡ Err NumberOutOfRange
         numbers-refused unfit =
             asked-refused NumberOutOfRange
             (inr (costs-fit, inr (lengths-pass, inl (never _ (λ e. unfit (numbers-only question.facts question.certificate e)), refl))))
@@ -146,7 +143,7 @@ module _ (bytes : List ℕ) (chart : Chart) (table : Lent) (question : Question)
             → n < chart.header.nodes
             → ((k : ℕ) → k < n → HoldsAt chart table (claim_of plan table question) k)
             → (HoldsAt chart table (claim_of plan table question) n → ⊥)
-            → bounded bytes table question ≡ Refused (CertificateFails n)
+            → bounded bytes table question ≡ Err (CertificateFails n)
         holding-refused fit n inside before fails =
             let at : failing_at plan table question ≡ n =
             first-is chart.header.nodes _ n inside (never _ (λ e. fails (holds-only chart table question n inside e)))
@@ -167,7 +164,7 @@ module _ (bytes : List ℕ) (chart : Chart) (table : Lent) (question : Question)
         lengths = lengths-refused;
         ranges = numbers-refused;
         fails = holding-refused;
-        bound = λ boundable. bounded-accepted ∙ first-otherwise Refused (bound_cases plan table question) (bound_of plan table question) (boundable-none boundable);
+        bound = λ boundable. bounded-accepted ∙ first-otherwise Err (bound_cases plan table question) (bound_of plan table question) (boundable-none boundable);
         only_bound = λ bound e. none-boundable (given-none bound e);
       }
 
@@ -197,15 +194,15 @@ bound-numbers bytes table question = go (read_chart bytes) refl
     one : (refusal : Refusal) → one_of given (number_of refusal) ≡ true → Among (number_of refusal) given
     one refusal e = one-of given (number_of refusal) e
 
-    answer : (chart : Chart) (b : Bounded) → first_case Refused (bound_cases (plan_of chart) table question) (bound_of (plan_of chart) table question) ≡ b → Among (bounded_say b).number given
-    answer chart (At bound) e = inl refl
-    answer chart (Refused refusal) e =
+    answer : (chart : Chart) (b : Result ℕ Refusal) → first_case Err (bound_cases (plan_of chart) table question) (bound_of (plan_of chart) table question) ≡ b → Among (bounded_say b).number given
+    answer chart (Ok bound) e = inl refl
+    answer chart (Err refusal) e =
         one refusal
         (answer-passes (λ r. one_of given (number_of r)) (bound_cases (plan_of chart) table question) refusal refl
-        (applies-first Refused (bound_cases (plan_of chart) table question) (bound_of (plan_of chart) table question) refusal (λ a b q. cc) (λ q. let z : ◌≡◌ {A = ℕ} 0 1 = cc in omega arith) e))
+        (applies-first Err (bound_cases (plan_of chart) table question) (bound_of (plan_of chart) table question) refusal (λ a b q. cc) (λ q. let z : ◌≡◌ {A = ℕ} 0 1 = cc in omega arith) e))
 
     go : (r : Read) → read_chart bytes ≡ r → Among (bounded_say (bound_read table question r)).number given
-    go (accepted chart) e = answer chart (first_case Refused (bound_cases (plan_of chart) table question) (bound_of (plan_of chart) table question)) refl
+    go (accepted chart) e = answer chart (first_case Err (bound_cases (plan_of chart) table question) (bound_of (plan_of chart) table question)) refl
     go (refused refusal) e = one refusal (answer-passes (λ r. one_of given (number_of r)) (chart_cases bytes) refusal refl (reading-refusals.only bytes refusal e))
 
 -- ---- rule 18.9, of the used parts of a table
@@ -247,9 +244,9 @@ module _ (bytes : List ℕ) (chart : Chart) (one other : Lent) (question : Quest
   bound-same Low =
       lowest-same (claim_of (plan_of chart) one question) (marked other) mark-same ∙ ap (λ (T : List (Cell Ages)). lowest (claim_by T)) (used-table (plan_of chart) one other same)
 
-  abbrev answer_by : Bool → Bool → ℕ → ℕ → Bounded
+  abbrev answer_by : Bool → Bool → ℕ → ℕ → Result ℕ Refusal
   answer_by short pass failing bound =
-      first_case Refused
+      first_case Err
       ((short ⇒ ShortBuffer)
       ∷ (not pass ⇒ NotPassing)
       ∷ (ltb question.costs.miss question.costs.hit ⇒ MissBelowHit)
@@ -257,7 +254,7 @@ module _ (bytes : List ℕ) (chart : Chart) (one other : Lent) (question : Quest
       ∷ (not (in_range question.facts question.certificate) ⇒ NumberOutOfRange)
       ∷ (ltb failing chart.header.nodes ⇒ CertificateFails failing)
       ∷ [])
-      (At bound)
+      (Ok bound)
 
   bounded-used : bounded bytes one question ≡ bounded bytes other question
   bounded-used =

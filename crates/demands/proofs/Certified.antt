@@ -1,4 +1,5 @@
 -- The bound of a certificate holds of every walk that keeps the facts; floors and ceilings are such facts, and certificates for them come to the totals.
+use Rattle.std.specs.Prelude.{Ok}
 use Prim.Native.Nat.{ℕ, ◌≤◌}
 use mathlib.Core.List.{List, ◌∷◌}
 use mathlib.Core.Path.{◌≡◌, sym, ap, ◌∙◌}
@@ -18,10 +19,9 @@ use Rattle.ages.proofs.Charting.{onward-planned}
 use Rattle.machine.specs.Machine.{Contents}
 use Rattle.costs.specs.Costs.{Figures, low_total, high_total}
 use Rattle.tables.specs.Lent.{Lent, table_of}
-use Rattle.totals.specs.declared.Totals.TheVariants.{Between}
-use Rattle.totals.specs.Totals.{totals}
+use Rattle.totals.specs.Totals.{totals, totals_between}
+use Rattle.deadline.proofs.Below.{both-same}
 use Rattle.deadline.specs.Widths.{SixteenBits}
-use Rattle.certificate.specs.declared.Bounded.TheVariants.{At}
 use Rattle.certificate.specs.Bound.{Question, side_rate, course_of, claim_of, side_bound, bound_cases, bounded}
 use Rattle.demands.specs.Demand1.{Summable}
 use Rattle.demands.specs.Demand3.{OnWalk}
@@ -35,7 +35,7 @@ use Rattle.demands.proofs.Bounding.{given-none, given-bound, none-boundable}
 use Rattle.demands.proofs.Visiting.{walk-marked, counted_at, visits-below, visits-above, charge-open}
 
 module _ (bytes : List ℕ) (chart : Chart) (table : Lent) (question : Question) (contents : Contents chart) (ts : List ℕ) (bound : ℕ)
-    (on : OnWalk bytes chart contents ts) (answered : bounded bytes table question ≡ At bound) where
+    (on : OnWalk bytes chart contents ts) (answered : bounded bytes table question ≡ Ok bound) where
   none : NoneApplies (bound_cases (plan_of chart) table question)
   none = given-none bytes chart table question on.read bound answered
 
@@ -85,28 +85,28 @@ module _ (bytes : List ℕ) (chart : Chart) (table : Lent) (question : Question)
 -- ---- floors and ceilings as facts
 
 module _ (bytes : List ℕ) (chart : Chart) (table : Lent) (figures : Figures) (low high : ℕ) (read : read_chart bytes ≡ accepted chart)
-    (bits : SixteenBits figures) (sums : totals bytes table figures ≡ Between low high) where
+    (bits : SixteenBits figures) (sums : totals bytes table figures ≡ totals_between low high) where
   summable : Summable chart table figures
   summable = (totals-refusals bytes chart table figures read).only_sums low high sums
 
-  totals-are : Between (low_total (plan_of chart) (table_of (plan_of chart) table) figures) (high_total (plan_of chart) (table_of (plan_of chart) table) figures) ≡ Between low high
+  totals-are : totals_between (low_total (plan_of chart) (table_of (plan_of chart) table) figures) (high_total (plan_of chart) (table_of (plan_of chart) table) figures) ≡ totals_between low high
   totals-are = sym ((totals-refusals bytes chart table figures read).sums summable) ∙ sums
 
-  high-total : bounded bytes table (visit_question (plan_of chart) table figures High) ≡ At high
+  high-total : bounded bytes table (visit_question (plan_of chart) table figures High) ≡ Ok high
   high-total =
       let is : high_total (plan_of chart) (table_of (plan_of chart) table) figures ≡ high = second totals-are in
-      high-recovered bytes chart table figures read bits summable ∙ ap At is
+      high-recovered bytes chart table figures read bits summable ∙ ap Ok is
     where
-      second : {a b c d : ℕ} → Between a b ≡ Between c d → b ≡ d
-      second e = cc
+      second : {a b c d : ℕ} → totals_between a b ≡ totals_between c d → b ≡ d
+      second e = (both-same e).1
 
-  low-total : bounded bytes table (visit_question (plan_of chart) table figures Low) ≡ At low
+  low-total : bounded bytes table (visit_question (plan_of chart) table figures Low) ≡ Ok low
   low-total =
       let is : low_total (plan_of chart) (table_of (plan_of chart) table) figures ≡ low = first totals-are in
-      low-recovered bytes chart table figures read bits summable ∙ ap At is
+      low-recovered bytes chart table figures read bits summable ∙ ap Ok is
     where
-      first : {a b c d : ℕ} → Between a b ≡ Between c d → a ≡ c
-      first e = cc
+      first : {a b c d : ℕ} → totals_between a b ≡ totals_between c d → a ≡ c
+      first e = (both-same e).0
 
 pub certified : Certified
 certified =

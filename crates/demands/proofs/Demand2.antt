@@ -37,8 +37,7 @@ use Rattle.tables.specs.Fitting.{TableFits}
 use Rattle.tables.proofs.Laid.{table-over, not_short, over-passes}
 use Rattle.tables.proofs.Fitting.{after_passes-fits}
 use Rattle.ages.proofs.Settled.{settles-within, settled-tightest, settled-passes, settled-made, settled-last, settled-earlier, settled-table, settled-marked}
-use Rattle.analysis.specs.declared.Analysed.TheVariants.{Settled, Refused}
-use Rattle.analysis.specs.Analysis.{Buffers, Left, buffers_short, filled_by, table_in, analysed}
+use Rattle.analysis.specs.Analysis.{Buffers, Left, buffers_short, filled_by, table_in, analysed, analysis_refused, settled_after}
 use Rattle.report.specs.Report.{taken, zero_buffers}
 use Rattle.report.specs.Ending.{refused_by, refuses}
 use Rattle.demands.specs.Demand2.{ShapeSaid, Settles, Planned, KeptSettles, Demand2}
@@ -108,25 +107,25 @@ module _ (bytes : List ℕ) (chart : Chart) (read : read_chart bytes ≡ accepte
         reached_marked = λ n r. subst (λ (T : List (Cell Ages)). Marked (cell_at T n)) (sym table_is) ((reach n).1 (reached-planned bytes chart read n r));
       }
 
-settled-settles : (bytes : List ℕ) (chart : Chart) (allowance passes blocks : ℕ) (lent : Buffers) → read_chart bytes ≡ accepted chart → (analysed bytes allowance lent).answer ≡ Settled passes blocks
+settled-settles : (bytes : List ℕ) (chart : Chart) (allowance passes blocks : ℕ) (lent : Buffers) → read_chart bytes ≡ accepted chart → (analysed bytes allowance lent).answer ≡ settled_after passes blocks
     → Settles chart passes blocks lent (analysed bytes allowance lent).buffers
 settled-settles bytes chart allowance passes blocks lent read e =
     let done = settled-done bytes chart allowance lent read passes blocks e in
     subst (Settles chart passes blocks lent) (ap (λ (l : Left). l.buffers) (sym done.left)) (done-settles bytes chart read allowance passes blocks lent done)
 
 -- Bytes whose analysis settles hold an accepted chart.
-settled-accepted : (bytes : List ℕ) (allowance passes blocks : ℕ) (lent : Buffers) → (analysed bytes allowance lent).answer ≡ Settled passes blocks
+settled-accepted : (bytes : List ℕ) (allowance passes blocks : ℕ) (lent : Buffers) → (analysed bytes allowance lent).answer ≡ settled_after passes blocks
     → (chart : Chart) × (read_chart bytes ≡ accepted chart)
 settled-accepted bytes allowance passes blocks lent e = go (read_chart bytes) refl
   where
     go : (r : Read) → read_chart bytes ≡ r → (chart : Chart) × (read_chart bytes ≡ accepted chart)
     go (accepted chart) q = (chart, q)
     go (refused refusal) q =
-        let says : (analysed bytes allowance lent).answer ≡ Refused refusal = ap (λ (l : Left). l.answer) (reading-refusals.to_analysis bytes refusal allowance lent q) in
+        let says : (analysed bytes allowance lent).answer ≡ analysis_refused refusal = ap (λ (l : Left). l.answer) (reading-refusals.to_analysis bytes refusal allowance lent q) in
         let z : ◌≡◌ {A = ℕ} 0 1 = cc in
         absurd (omega arith)
 
-settled-agree : (bytes : List ℕ) (one other passes passes' blocks blocks' : ℕ) (lent : Buffers) → (analysed bytes one lent).answer ≡ Settled passes blocks → (analysed bytes other lent).answer ≡ Settled passes' blocks'
+settled-agree : (bytes : List ℕ) (one other passes passes' blocks blocks' : ℕ) (lent : Buffers) → (analysed bytes one lent).answer ≡ settled_after passes blocks → (analysed bytes other lent).answer ≡ settled_after passes' blocks'
     → analysed bytes one lent ≡ analysed bytes other lent
 settled-agree bytes one other passes passes' blocks blocks' lent d e =
     let found = settled-accepted bytes one passes blocks lent d in
@@ -135,13 +134,13 @@ settled-agree bytes one other passes passes' blocks blocks' lent d e =
     let second = settled-done bytes chart other lent found.1 passes' blocks' e in
     let same = settle-agree (ages_flow chart) one other passes passes' first.table second.table first.outcome second.outcome in
     first.left
-    ∙ (λ i. record { answer = Settled (same.0 i) (block_count chart); buffers = filled_by (plan_of chart) chart.blocks (same.1 i) lent })
+    ∙ (λ i. record { answer = settled_after (same.0 i) (block_count chart); buffers = filled_by (plan_of chart) chart.blocks (same.1 i) lent })
     ∙ sym second.left
 
 -- ---- an allowance that is enough
 
 settles-enough : (bytes : List ℕ) (chart : Chart) (allowance : ℕ) (lent : Buffers) → read_chart bytes ≡ accepted chart → buffers_short (plan_of chart) lent ≡ false → most_passes chart ≤ allowance
-    → (passes : ℕ) × ((analysed bytes allowance lent).answer ≡ Settled passes (block_count chart))
+    → (passes : ℕ) × ((analysed bytes allowance lent).answer ≡ settled_after passes (block_count chart))
 settles-enough bytes chart allowance lent read room h =
     let done = settles-within (plan_of chart) (chart-sound bytes chart read) chart.header.geometry.ways (limits-planned chart) allowance (omega (arith, enough-planned chart)) in
     (done.0, done-settled bytes chart allowance lent read room done.0 done.1 done.2)
@@ -164,7 +163,7 @@ zeros-room chart nodes blocks n b =
     room size used h = omega (arith, length-replicate {A = ℕ} size 0)
 
 program-enough : (bytes : List ℕ) (chart : Chart) → read_chart bytes ≡ accepted chart
-    → (passes : ℕ) × ((analysed bytes all_passes (zero_buffers most_nodes most_blocks)).answer ≡ Settled passes (block_count chart))
+    → (passes : ℕ) × ((analysed bytes all_passes (zero_buffers most_nodes most_blocks)).answer ≡ settled_after passes (block_count chart))
 program-enough bytes chart read =
     let nodes = accepted-nodes bytes chart read in
     let few = accepted-few bytes chart read in

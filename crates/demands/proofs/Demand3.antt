@@ -1,4 +1,5 @@
 -- Demand 3: what the tool says is true of the plain machine, at each step of every walk, and what the machine pays lies between the totals.
+use Rattle.std.specs.Prelude.{Ok, Err, Result}
 use Prim.Native.Nat.{ℕ, ◌+◌, ◌*◌, ◌≤◌, ◌<◌}
 use mathlib.Core.Bool.{true}
 use mathlib.Core.List.{List, ◌++◌}
@@ -20,12 +21,9 @@ use Rattle.flow.specs.Flow.{Cell, cell_at}
 use Rattle.flow.proofs.Walking.{at-nodes, visits_of-zero, at-nodes-both}
 use Rattle.tables.specs.Lent.{Lent, ages_at, table_of, TablePasses}
 use Rattle.tables.proofs.Laid.{table_of-at}
-use Rattle.analysis.specs.declared.Analysed.TheVariants.{Settled}
 use Rattle.classes.specs.Class.{node_class, table_classes, CalledRight}
 use Rattle.classes.proofs.Places.{classes_long, first_listed, second_listed}
-use Rattle.analysis.specs.Analysis.{Buffers, table_in, analysed}
-use Rattle.totals.specs.declared.Totals.TheVariants.{Between, Refused}
-use Rattle.totals.specs.declared.Totals.{Totals}
+use Rattle.analysis.specs.Analysis.{Buffers, table_in, analysed, settled_after}
 use Rattle.totals.specs.Totals.{totals, totals_say}
 use Rattle.costs.proofs.Spending.{low_below, high-above, low-reached, high-reached}
 use Rattle.demands.specs.Demand1.{FiguresFit, Summable}
@@ -38,6 +36,8 @@ use Rattle.demands.proofs.Keeping.{charge-above}
 use Rattle.demands.proofs.Unkept.{charge-none}
 use Rattle.demands.proofs.Reading.{written-misses}
 use Rattle.demands.proofs.Truth.{walk-arrives, arrived-true, arrived-reached, arrived_right}
+use Rattle.totals.specs.declared.Totals.{Totals}
+use Rattle.refusals.specs.declared.Refusal.{Refusal}
 
 module _ (bytes : List ℕ) (chart : Chart) (table : Lent) (cache : Contents chart) (ts : List ℕ) (on : OnWalk bytes chart cache ts) (passing : TablePasses (plan_of chart) table) where
   arriving : AtEachNode chart (Arrives chart table) ts cache
@@ -122,14 +122,14 @@ module _ (bytes : List ℕ) (chart : Chart) (table : Lent) (cache : Contents cha
 given-summable : (bytes : List ℕ) (chart : Chart) (table : Lent) (figures : Figures) → read_chart bytes ≡ accepted chart → (totals_say (totals bytes table figures)).number ≡ 0 → Summable chart table figures
 given-summable bytes chart table figures read given = go (totals bytes table figures) refl
   where
-    go : (answer : Totals) → totals bytes table figures ≡ answer → Summable chart table figures
-    go (Between low high) e = (totals-refusals bytes chart table figures read).only_sums low high e
-    go (Refused refusal) e = absurd (omega (arith, ap (λ (t : Totals). (totals_say t).number) e, number-positive refusal))
+    go : (answer : Result Totals Refusal) → totals bytes table figures ≡ answer → Summable chart table figures
+    go (Ok sums) e = (totals-refusals bytes chart table figures read).only_sums sums.low sums.high e
+    go (Err refusal) e = absurd (omega (arith, ap (λ (t : Result Totals Refusal). (totals_say t).number) e, number-positive refusal))
 
 -- ---- the classes that the analysis writes
 
 module _ (bytes : List ℕ) (chart : Chart) (allowance passes blocks : ℕ) (lent : Buffers) (cache : Contents chart) (ts : List ℕ)
-    (on : OnWalk bytes chart cache ts) (done : (analysed bytes allowance lent).answer ≡ Settled passes blocks) where
+    (on : OnWalk bytes chart cache ts) (done : (analysed bytes allowance lent).answer ≡ settled_after passes blocks) where
   abbrev left : Buffers
   left = (analysed bytes allowance lent).buffers
 
@@ -188,7 +188,7 @@ demand3 =
       cost_between = λ bytes chart table figures cache ts answer on yes figures_fit within contract.
           subst (CostBetween chart figures ts cache) (sym contract) (passing-between bytes chart table cache ts on (checker_yes bytes chart table on.read yes) figures figures_fit within);
       given_between = λ bytes chart table figures cache ts answer on within contract given.
-          let said : (totals_say (totals bytes table figures)).number ≡ 0 = ap (λ (t : Totals). (totals_say t).number) (sym contract) ∙ given in
+          let said : (totals_say (totals bytes table figures)).number ≡ 0 = ap (λ (t : Result Totals Refusal). (totals_say t).number) (sym contract) ∙ given in
           subst (CostBetween chart figures ts cache) (sym contract) (passing-between bytes chart table cache ts on (given-summable bytes chart table figures on.read said).passing figures (given-summable bytes chart table figures on.read said).figures_fit within);
       cost_exactly = λ bytes chart table figures cache ts answer on yes figures_fit known sure contract.
           let within : VisitsWithin chart figures ts = record { no_less = λ n h. omega (arith, known.floors n h); no-more = λ n h. omega (arith, known.ceilings n h) } in

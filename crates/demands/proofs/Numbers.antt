@@ -1,4 +1,5 @@
 -- Of demand 1: which numbers each function's refusals have, and their values.
+use Rattle.std.specs.Prelude.{Err, Ok, Result}
 use Prim.Native.Nat.{ℕ, ◌≤◌}
 use mathlib.Core.Bool.{Bool, true, false, cond}
 use mathlib.Core.List.{List, []}
@@ -11,23 +12,18 @@ use Rattle.lists.specs.Answers.{every_answer}
 use Rattle.lists.proofs.Choice.{applies-first, answer-passes}
 use Rattle.refusals.specs.declared.Refusal.{Refusal}
 use Rattle.refusals.specs.declared.Refusal.TheVariants.{ShortBuffer}
-use Rattle.chart.specs.declared.headers.HeaderRead.{HeaderRead}
-use Rattle.chart.specs.declared.headers.HeaderRead.TheVariants.{Accepted, Refused}
 use Rattle.chart.specs.Header.{header_in, bytes_cases, header_read, header_says}
 use Rattle.refusals.specs.Refusals.{number_of, place_of}
 use Rattle.chart.specs.Chart.{Chart, Read, accepted, refused, read_chart, chart_cases, block_count}
-use Rattle.chart.specs.declared.readings.Verdict.TheVariants.{Refused as ReaderRefused}
 use Rattle.chart.specs.Reading.{reading_of, reading, verdict_says}
 use Rattle.cache.specs.Ages.{Ages}
 use Rattle.flow.specs.Pass.{Outcome, settled, spent, settle}
 use Rattle.ages.specs.Charted.{plan_of, ages_flow}
 use Rattle.tables.specs.Lent.{Lent, table_short}
-use Rattle.analysis.specs.declared.Analysed.TheVariants.{Refused as AnalysisRefused}
-use Rattle.analysis.specs.Analysis.{Buffers, buffers_short, refuse, finish, analyse_read, analysed, AnalysedSaid, analysed_says}
-use Rattle.checker.specs.declared.Checked.TheVariants.{Yes, No}
-use Rattle.checker.specs.declared.Checked.TheVariants.{Refused as CheckerRefused}
+use Rattle.analysis.specs.Analysis.{Buffers, buffers_short, refuse, finish, analyse_read, analysed, AnalysedSaid, analysed_says, analysis_refused as refused_analysis}
 use Rattle.checker.specs.Checker.{passing, checked_by, check_read, checked, checked_says}
 use Rattle.demands.proofs.Refusals.{reading-refusals}
+use Rattle.chart.specs.declared.headers.Header.{Header}
 
 -- ---- the refusals that some rules give
 
@@ -44,11 +40,11 @@ pub header-numbers : (bytes : List ℕ) → (header_says (header_read bytes)).nu
 unfolding header_read
 header-numbers bytes = go (header_read bytes) refl
   where
-    go : (r : HeaderRead) → header_read bytes ≡ r → (header_says r).number ≤ 8
-    go (Accepted header) e = omega arith
-    go (Refused refusal) e =
+    go : (r : Result Header Refusal) → header_read bytes ≡ r → (header_says r).number ≤ 8
+    go (Ok header) e = omega arith
+    go (Err refusal) e =
         said-most 8 (bytes_cases bytes) refusal refl
-        (applies-first Refused (bytes_cases bytes) (Accepted (header_in bytes)) refusal (λ a b q. cc) (λ q. let z : ◌≡◌ {A = ℕ} 0 1 = cc in omega arith) e)
+        (applies-first Err (bytes_cases bytes) (Ok (header_in bytes)) refusal (λ a b q. cc) (λ q. let z : ◌≡◌ {A = ℕ} 0 1 = cc in omega arith) e)
 
 pub reading_numbers : (bytes : List ℕ) → (verdict_says (reading bytes).verdict).number ≤ 10
 unfolding reading_of
@@ -62,7 +58,7 @@ pub checker_numbers : (bytes : List ℕ) (table : Lent) → (checked_says (check
 unfolding checked checked_by
 checker_numbers bytes table = go (read_chart bytes) refl
   where
-    answer : (short pass : Bool) → (checked_says (cond short (CheckerRefused ShortBuffer) (cond pass Yes No))).number ≤ 11
+    answer : (short pass : Bool) → (checked_says (cond short (Err ShortBuffer) (Ok pass))).number ≤ 11
     answer true pass = omega arith
     answer false true = omega arith
     answer false false = omega arith
@@ -86,30 +82,30 @@ analysis_numbers bytes allowance lent = go (read_chart bytes) refl
 
 -- ---- the values of a refusal that is given
 
-pub header_refusal : (bytes : List ℕ) (refusal : Refusal) → header_read bytes ≡ Refused refusal → header_says (header_read bytes) ≡ record { number = number_of refusal; place = place_of refusal; header = [] }
+pub header_refusal : (bytes : List ℕ) (refusal : Refusal) → header_read bytes ≡ Err refusal → header_says (header_read bytes) ≡ record { number = number_of refusal; place = place_of refusal; header = [] }
 header_refusal bytes refusal e = ap header_says e
 
-pub reading_refusal : (bytes : List ℕ) (refusal : Refusal) → (reading bytes).verdict ≡ ReaderRefused refusal → verdict_says (reading bytes).verdict ≡ record { number = number_of refusal; place = place_of refusal; blocks = 0; header = [] }
+pub reading_refusal : (bytes : List ℕ) (refusal : Refusal) → (reading bytes).verdict ≡ Err refusal → verdict_says (reading bytes).verdict ≡ record { number = number_of refusal; place = place_of refusal; blocks = 0; header = [] }
 reading_refusal bytes refusal e = ap verdict_says e
 
-pub checker_refusal : (bytes : List ℕ) (table : Lent) (refusal : Refusal) → checked bytes table ≡ CheckerRefused refusal → checked_says (checked bytes table) ≡ record { number = number_of refusal; place = place_of refusal; yes = 0 }
+pub checker_refusal : (bytes : List ℕ) (table : Lent) (refusal : Refusal) → checked bytes table ≡ Err refusal → checked_says (checked bytes table) ≡ record { number = number_of refusal; place = place_of refusal; yes = 0 }
 checker_refusal bytes table refusal e = ap checked_says e
 
-pub analysis_refusal : (bytes : List ℕ) (allowance : ℕ) (lent : Buffers) (refusal : Refusal) → (analysed bytes allowance lent).answer ≡ AnalysisRefused refusal
+pub analysis_refusal : (bytes : List ℕ) (allowance : ℕ) (lent : Buffers) (refusal : Refusal) → (analysed bytes allowance lent).answer ≡ refused_analysis refusal
     → analysed_says (analysed bytes allowance lent).answer ≡ record { number = number_of refusal; place = place_of refusal; passes = 0; blocks = 0 }
 analysis_refusal bytes allowance lent refusal e = ap analysed_says e
 
-pub analysis_refused : (bytes : List ℕ) (allowance : ℕ) (lent : Buffers) (refusal : Refusal) → (analysed bytes allowance lent).answer ≡ AnalysisRefused refusal → number_of refusal ≤ 11
+pub analysis_refused : (bytes : List ℕ) (allowance : ℕ) (lent : Buffers) (refusal : Refusal) → (analysed bytes allowance lent).answer ≡ refused_analysis refusal → number_of refusal ≤ 11
 unfolding analysed finish
 analysis_refused bytes allowance lent refusal = go (read_chart bytes) refl
   where
     answer : (chart : Chart) (short : Bool) (o : Outcome Ages)
-        → (cond short (refuse lent ShortBuffer) (finish (plan_of chart) chart.blocks allowance lent o)).answer ≡ AnalysisRefused refusal → number_of refusal ≤ 11
+        → (cond short (refuse lent ShortBuffer) (finish (plan_of chart) chart.blocks allowance lent o)).answer ≡ refused_analysis refusal → number_of refusal ≤ 11
     answer chart true o e = let same : ShortBuffer ≡ refusal = cc in subst (λ (r : Refusal). number_of r ≤ 11) same (omega arith)
     answer chart false (settled k U) e = let z : ◌≡◌ {A = ℕ} 0 1 = cc in absurd (omega arith)
     answer chart false spent e = let z : ◌≡◌ {A = ℕ} 0 1 = cc in absurd (omega arith)
 
-    go : (r : Read) → read_chart bytes ≡ r → (analyse_read allowance lent r).answer ≡ AnalysisRefused refusal → number_of refusal ≤ 11
+    go : (r : Read) → read_chart bytes ≡ r → (analyse_read allowance lent r).answer ≡ refused_analysis refusal → number_of refusal ≤ 11
     go (accepted chart) q e = answer chart (buffers_short (plan_of chart) lent) (settle (ages_flow chart) allowance) e
     go (refused other) q e =
         let same : other ≡ refusal = cc in

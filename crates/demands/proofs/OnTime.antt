@@ -1,4 +1,5 @@
 -- A deadline that is met is kept by every walk within the bounds: its cost lies between the totals, and rounding keeps the order.
+use Rattle.std.specs.Prelude.{Result}
 use Prim.Native.Nat.{ℕ, ◌^◌, ◌≤◌, ◌<◌}
 use mathlib.Core.Bool.{true≢false}
 use mathlib.Core.List.{List}
@@ -19,16 +20,17 @@ use Rattle.clock.proofs.Exact.{product-exact, figure-exact, keeps-exactly, exact
 use Rattle.machine.specs.Machine.{Contents}
 use Rattle.costs.specs.Costs.{Figures}
 use Rattle.tables.specs.Lent.{Lent}
-use Rattle.totals.specs.declared.Totals.TheVariants.{Between}
-use Rattle.deadline.specs.declared.Judged.{Judged}
 use Rattle.deadline.specs.Deadline.{low_figure, high_figure, judged, judged_say}
 use Rattle.deadline.specs.Widths.{SixteenBits}
 use Rattle.deadline.proofs.Below.{totals_below}
 use Rattle.demands.specs.OnTime.{JudgedWalk, cost_along, OnTime}
 use Rattle.demands.proofs.Demand3.{demand3}
 use Rattle.demands.proofs.Judging.{Verdict, verdict-of, met-number}
+use Rattle.deadline.specs.declared.Judged.{Judged}
+use Rattle.refusals.specs.declared.Refusal.{Refusal}
+use Rattle.totals.specs.Totals.{totals_between}
 
-module _ (bytes : List ℕ) (chart : Chart) (table : Lent) (figures : Figures) (contents : Contents chart) (ts : List ℕ) (sheet : ClockSheet) (deadline : Deadline) (answer : Judged)
+module _ (bytes : List ℕ) (chart : Chart) (table : Lent) (figures : Figures) (contents : Contents chart) (ts : List ℕ) (sheet : ClockSheet) (deadline : Deadline) (answer : Result Judged Refusal)
     (walk : JudgedWalk bytes chart table figures contents ts sheet deadline answer) (given : (judged_say answer).number ≡ 0) where
   abbrev cost : ℕ
   cost = cost_along chart figures ts contents
@@ -41,7 +43,7 @@ module _ (bytes : List ℕ) (chart : Chart) (table : Lent) (figures : Figures) (
 
   between : (told.low ≤ cost) × (cost ≤ told.high)
   between =
-      let costs = demand3.given_between bytes chart table figures contents ts (Between told.low told.high) walk.on_walk walk.within (sym told.sums) refl in
+      let costs = demand3.given_between bytes chart table figures contents ts (totals_between told.low told.high) walk.on_walk walk.within (sym told.sums) refl in
       (costs.no_less, costs.no-more)
 
   least : T (le (figure_of sheet told.low) (figure_of sheet cost))
@@ -69,7 +71,7 @@ module _ (bytes : List ℕ) (chart : Chart) (table : Lent) (figures : Figures) (
 
 -- ---- of an answer, whatever walks there are
 
-module _ (bytes : List ℕ) (table : Lent) (figures : Figures) (sheet : ClockSheet) (deadline : Deadline) (answer : Judged)
+module _ (bytes : List ℕ) (table : Lent) (figures : Figures) (sheet : ClockSheet) (deadline : Deadline) (answer : Result Judged Refusal)
     (answered : answer ≡ judged bytes table figures sheet deadline) (given : (judged_say answer).number ≡ 0) where
   shown : Verdict bytes table figures sheet deadline answer
   shown = verdict-of bytes table figures sheet deadline answer answered given

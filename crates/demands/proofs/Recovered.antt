@@ -1,4 +1,5 @@
 -- Where there are totals, certificates for floors and ceilings as facts hold, their numbers are in range, and they come to just those totals.
+use Rattle.std.specs.Prelude.{Ok}
 use Prim.Native.Nat.{ℕ, zero, suc, ◌+◌, ◌-◌, ◌*◌, ◌/◌, ◌%◌, ◌^◌, ◌≤◌, ◌<◌}
 use mathlib.Core.Bool.{Bool, true, false, cond, ◌&&◌}
 use mathlib.Core.List.{List}
@@ -28,7 +29,6 @@ use Rattle.tables.specs.Lent.{Lent, table_of}
 use Rattle.totals.proofs.Summing.{low-rate-most, high-rate-most}
 use Rattle.deadline.specs.Widths.{SixteenBits}
 use Rattle.deadline.proofs.Below.{visit-most}
-use Rattle.certificate.specs.declared.Bounded.TheVariants.{At}
 use Rattle.certificate.specs.Bound.{side_rate, course_of, loads_of, bounded}
 use Rattle.demands.specs.Demand1.{Summable}
 use Rattle.demands.specs.Bounding.{LengthsFit, NumbersFit, HoldsAt, Boundable}
@@ -175,14 +175,14 @@ module _ (bytes : List ℕ) (chart : Chart) (table : Lent) (figures : Figures) (
       (λ block h. ap (λ (t : Bool). cond t 1 0)
       (any_same chart.header.nodes _ _ (λ n inside i. opened chart.header.nodes figures n inside i && keeps_at plan block n (cell_at cells n)))))
 
-  pub high-recovered : bounded bytes table (visit_question plan table figures High) ≡ At (high_total plan cells figures)
+  pub high-recovered : bounded bytes table (visit_question plan table figures High) ≡ Ok (high_total plan cells figures)
   unfolding total_by
   high-recovered =
       (bound-refusals bytes chart table (visit_question plan table figures High) read).bound (boundable High)
-      ∙ (λ i. At (ceilings-bound (course_for High) figures i + loads-are i))
+      ∙ (λ i. Ok (ceilings-bound (course_for High) figures i + loads-are i))
 
-  pub low-recovered : bounded bytes table (visit_question plan table figures Low) ≡ At (low_total plan cells figures)
+  pub low-recovered : bounded bytes table (visit_question plan table figures Low) ≡ Ok (low_total plan cells figures)
   unfolding total_by
   low-recovered =
       (bound-refusals bytes chart table (visit_question plan table figures Low) read).bound (boundable Low)
-      ∙ (λ i. At (floors-bound (course_for Low) figures i))
+      ∙ (λ i. Ok (floors-bound (course_for Low) figures i))

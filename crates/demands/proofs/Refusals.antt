@@ -1,9 +1,9 @@
 -- Of demand 1: refusals 1 to 10 are given exactly when their rule is the first that applies, and every function gives them.
+use Rattle.std.specs.Prelude.{Err, Ok}
 use mathlib.Core.Path.{◌≡◌, refl}
 use Prim.Native.Nat.{ℕ}
 use native.Mathlib.Omega.{arith}
 use Rattle.lists.proofs.Choice.{first-applies, applies-first}
-use Rattle.chart.specs.declared.headers.HeaderRead.TheVariants.{Accepted as HeaderAccepted, Refused as HeaderRefused}
 use Rattle.chart.specs.Header.{header_in, bytes_cases, header_read}
 use Rattle.chart.specs.Chart.{accepted, refused, chart_in, chart_cases, read_chart}
 use Rattle.chart.specs.Refusing.{record_blocks}
@@ -26,8 +26,8 @@ reading-refusals =
       header_order = λ bytes. refl;
       given = λ bytes refusal f. first-applies refused (chart_cases bytes) (accepted (chart_in bytes)) refusal f;
       only = λ bytes refusal e. applies-first refused (chart_cases bytes) (accepted (chart_in bytes)) refusal (λ a b q. cc) (λ q. let z : ◌≡◌ {A = ℕ} 0 1 = cc in omega arith) e;
-      header-given = λ bytes refusal f. first-applies HeaderRefused (bytes_cases bytes) (HeaderAccepted (header_in bytes)) refusal f;
-      header_only = λ bytes refusal e. applies-first HeaderRefused (bytes_cases bytes) (HeaderAccepted (header_in bytes)) refusal (λ a b q. cc) (λ q. let z : ◌≡◌ {A = ℕ} 0 1 = cc in omega arith) e;
+      header-given = λ bytes refusal f. first-applies Err (bytes_cases bytes) (Ok (header_in bytes)) refusal f;
+      header_only = λ bytes refusal e. applies-first Err (bytes_cases bytes) (Ok (header_in bytes)) refusal (λ a b q. cc) (λ q. let z : ◌≡◌ {A = ℕ} 0 1 = cc in omega arith) e;
       from_header = read-refuses;
       to_reader = λ bytes refusal e. rw e;
       to_reader_accepted = λ bytes chart e. rw e;

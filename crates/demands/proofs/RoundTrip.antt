@@ -1,4 +1,5 @@
 -- What was written reads back, what was read is written again, and so no two charts have the same bytes and no two byte strings the same chart.
+use Rattle.std.specs.Prelude.{Ok}
 use Prim.Native.Nat.{ℕ, ◌+◌, ◌*◌, ◌<◌}
 use mathlib.Core.List.{List, [], ◌++◌, append-nil}
 use mathlib.Core.Path.{◌≡◌, refl, sym, ap, subst, ◌∙◌}
@@ -14,7 +15,6 @@ use Rattle.chart.proofs.Accepted.{accepted-length}
 use Rattle.chart.specs.declared.headers.Header.{Header}
 use Rattle.writer.specs.Taken.{heading_of, fields_of, lists_of}
 use Rattle.writer.specs.declared.heading.Heading.{Heading}
-use Rattle.writer.specs.declared.writing.Wrote.TheVariants.{Bytes}
 use Rattle.writer.specs.Given.{NodeLists, header_given, listed, AllLong}
 use Rattle.writer.specs.Writer.{WriteLeft, wrote}
 use Rattle.demands.specs.Writing.{ListsLong}
@@ -39,8 +39,8 @@ same_lists count ones others long longs same =
     column l m e d at = ext_get_or 0 l m (e ∙ sym d) (λ n h. at n (omega (arith, e)))
 
 no_two_charts : (one other : Heading) (ones others : NodeLists) (lent spare : List ℕ) (count same : ℕ)
-    → (wrote one ones lent).answer ≡ Bytes count
-    → (wrote other others spare).answer ≡ Bytes same
+    → (wrote one ones lent).answer ≡ Ok count
+    → (wrote other others spare).answer ≡ Ok same
     → take count (wrote one ones lent).chart ≡ take same (wrote other others spare).chart
     → (one ≡ other) × (ones ≡ others)
 no_two_charts one other ones others lent spare count same e d alike =

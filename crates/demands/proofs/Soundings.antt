@@ -1,5 +1,6 @@
 -- The definitions give the numbers that are asked for: the starred soundings under one claim; the loop's report whole; a damaged chart's refusals;
 -- and what each of five mistakes would read instead.
+use Rattle.std.specs.Prelude.{Ok}
 use Prim.Native.Nat.{ℕ, zero, suc, ◌^◌, ◌≤◌, ◌<◌}
 use mathlib.Core.List.{◌∷◌}
 use lib.ListN.{get_or, length}
@@ -36,10 +37,8 @@ use Rattle.kept.specs.Kept.{kept_flow, kept_table, stays_by}
 use Rattle.classes.specs.Class.{class_by}
 use Rattle.analysis.specs.Analysis.{finish, analysed}
 use Rattle.checker.specs.Checker.{passing, checked_by, checked}
-use Rattle.totals.specs.declared.Totals.TheVariants.{Between}
-use Rattle.totals.specs.Totals.{totals}
+use Rattle.totals.specs.Totals.{totals, totals_between}
 use Rattle.costs.specs.Costs.{total_by, kept_charge}
-use Rattle.certificate.specs.declared.Bounded.TheVariants.{At}
 use Rattle.certificate.specs.Bound.{bounded}
 use Rattle.report.specs.Report.{report}
 use Rattle.report.specs.Ending.{refuses}
@@ -295,11 +294,11 @@ branch_read : read_chart branch ≡ accepted (chart_in branch)
 unfolding all-unfolded
 branch_read = refl
 
-branch-totals : totals branch branch_table branch_figures ≡ Between 0 78
+branch-totals : totals branch branch_table branch_figures ≡ totals_between 0 78
 unfolding all-unfolded
 branch-totals = refl
 
-branch_as_facts : bounded branch branch_table (visit_question (plan_of (chart_in branch)) branch_table branch_figures High) ≡ At 78
+branch_as_facts : bounded branch branch_table (visit_question (plan_of (chart_in branch)) branch_table branch_figures High) ≡ Ok 78
 branch_as_facts =
     certified.high-total branch (chart_in branch) branch_table branch_figures 0 78 branch_read
     (record { hit = omega arith; miss = omega arith; floors = branch-floors; ceilings = branch-ceilings })

@@ -1,5 +1,6 @@
 -- The totals of an accepted chart: when each refusal is given and when the sums are, which numbers there are, and that nothing counts
 -- beyond the used parts of a table.
+use Rattle.std.specs.Prelude.{Err, Ok, Result}
 use native.Mathlib.Decide.{ℕ_discrete}
 use Prim.Native.Nat.{ℕ, ◌≤◌, ◌<◌}
 use mathlib.Core.Bool.{Bool, true, not, ◌&&◌, false}
@@ -22,47 +23,44 @@ use Rattle.tables.specs.Lent.{Lent, table_of, table_short, SameUsed}
 use Rattle.ages.specs.Charted.{plan_of}
 use Rattle.ages.proofs.Charting.{chart-sound}
 use Rattle.tables.proofs.Used.{used-mark, used-table}
-use Rattle.checker.specs.declared.Checked.{Checked}
-use Rattle.checker.specs.declared.Checked.TheVariants as checker
 use Rattle.checker.specs.Checker.{passing, checked}
 use Rattle.checker.specs.Inner.{answer_of}
 use Rattle.checker.proofs.Answers.{checked-accepted, short-only, no-only}
 use Rattle.checker.proofs.Deciding.{passing-yes, yes-long, yes-passing}
 use Rattle.checker.proofs.Used.{passing-used}
-use Rattle.totals.specs.declared.Totals.{Totals}
-use Rattle.totals.specs.declared.Totals.TheVariants.{Between, Refused}
 use Rattle.costs.specs.Costs.{Figures, low_total, high_total}
-use Rattle.totals.specs.Totals.{floor_at_unmarked, first_crossed, first_floor_at_unmarked, total_cases, total_read, totals, totals_say}
+use Rattle.totals.specs.Totals.{floor_at_unmarked, first_crossed, first_floor_at_unmarked, total_cases, total_read, totals, totals_say, totals_between}
 use Rattle.demands.specs.Demand1.{TotalsRefusals, Summable}
 use Rattle.demands.proofs.Refusals.{reading-refusals}
+use Rattle.totals.specs.declared.Totals.{Totals}
 
 module _ (bytes : List ℕ) (chart : Chart) (table : Lent) (figures : Figures) (read : read_chart bytes ≡ accepted chart) where
-  abbrev sums : Totals
-  sums = Between (low_total (plan_of chart) (table_of (plan_of chart) table) figures) (high_total (plan_of chart) (table_of (plan_of chart) table) figures)
+  abbrev sums : Result Totals Refusal
+  sums = totals_between (low_total (plan_of chart) (table_of (plan_of chart) table) figures) (high_total (plan_of chart) (table_of (plan_of chart) table) figures)
 
-  pub totals-accepted : totals bytes table figures ≡ first_case Refused (total_cases (plan_of chart) table figures) sums
+  pub totals-accepted : totals bytes table figures ≡ first_case Err (total_cases (plan_of chart) table figures) sums
   unfolding totals
   totals-accepted = rw read
 
   -- Where sums are given, no rule applies, and where a refusal is, its rule is the first.
-  given-none : (low high : ℕ) → totals bytes table figures ≡ Between low high → NoneApplies (total_cases (plan_of chart) table figures)
+  given-none : (low high : ℕ) → totals bytes table figures ≡ totals_between low high → NoneApplies (total_cases (plan_of chart) table figures)
   given-none low high e =
-      none-applies Refused (total_cases (plan_of chart) table figures) sums (Between low high) (λ x q. let z : ◌≡◌ {A = ℕ} 0 1 = cc in omega arith) (sym totals-accepted ∙ e)
+      none-applies Err (total_cases (plan_of chart) table figures) sums (totals_between low high) (λ x q. let z : ◌≡◌ {A = ℕ} 0 1 = cc in omega arith) (sym totals-accepted ∙ e)
 
-  given-first : (refusal : Refusal) → totals bytes table figures ≡ Refused refusal → FirstApplies (total_cases (plan_of chart) table figures) refusal
+  given-first : (refusal : Refusal) → totals bytes table figures ≡ Err refusal → FirstApplies (total_cases (plan_of chart) table figures) refusal
   given-first refusal e =
-      applies-first Refused (total_cases (plan_of chart) table figures) sums refusal (λ a b q. cc) (λ q. let z : ◌≡◌ {A = ℕ} 0 1 = cc in omega arith) (sym totals-accepted ∙ e)
+      applies-first Err (total_cases (plan_of chart) table figures) sums refusal (λ a b q. cc) (λ q. let z : ◌≡◌ {A = ℕ} 0 1 = cc in omega arith) (sym totals-accepted ∙ e)
 
   -- What the checker answers decides the first two rules.
-  checked-cases : (answer : Checked) → checked bytes table ≡ answer → answer_of (table_short (plan_of chart) table) (passing (plan_of chart) table) ≡ answer
+  checked-cases : (answer : Result Bool Refusal) → checked bytes table ≡ answer → answer_of (table_short (plan_of chart) table) (passing (plan_of chart) table) ≡ answer
   checked-cases answer e = sym (checked-accepted bytes chart table read) ∙ e
 
-  short-first : checked bytes table ≡ checker.Refused ShortBuffer → FirstApplies (total_cases (plan_of chart) table figures) ShortBuffer
-  short-first e = inl ((short-only ShortBuffer (table_short (plan_of chart) table) (passing (plan_of chart) table) (checked-cases (checker.Refused ShortBuffer) e)).0, refl)
+  short-first : checked bytes table ≡ Err ShortBuffer → FirstApplies (total_cases (plan_of chart) table figures) ShortBuffer
+  short-first e = inl ((short-only ShortBuffer (table_short (plan_of chart) table) (passing (plan_of chart) table) (checked-cases (Err ShortBuffer) e)).0, refl)
 
-  fails-first : checked bytes table ≡ checker.No → FirstApplies (total_cases (plan_of chart) table figures) NotPassing
+  fails-first : checked bytes table ≡ Ok false → FirstApplies (total_cases (plan_of chart) table figures) NotPassing
   fails-first e =
-      let both = no-only (table_short (plan_of chart) table) (passing (plan_of chart) table) (checked-cases checker.No e) in
+      let both = no-only (table_short (plan_of chart) table) (passing (plan_of chart) table) (checked-cases (Ok false) e) in
       inr (both.0, inl (ap not both.1, refl))
 
   -- Where no rule applies, the sums are given for what the rules turned round say, and the other way.
@@ -114,12 +112,12 @@ module _ (bytes : List ℕ) (chart : Chart) (table : Lent) (figures : Figures) (
   totals-refusals =
       record {
         order = refl;
-        given = λ refusal f. totals-accepted ∙ first-applies Refused (total_cases (plan_of chart) table figures) sums refusal f;
+        given = λ refusal f. totals-accepted ∙ first-applies Err (total_cases (plan_of chart) table figures) sums refusal f;
         only = given-first;
-        sums = λ summable. totals-accepted ∙ first-otherwise Refused (total_cases (plan_of chart) table figures) sums (summable-none summable);
+        sums = λ summable. totals-accepted ∙ first-otherwise Err (total_cases (plan_of chart) table figures) sums (summable-none summable);
         only_sums = λ low high e. none-summable (given-none low high e);
-        short = λ e. totals-accepted ∙ first-applies Refused (total_cases (plan_of chart) table figures) sums ShortBuffer (short-first e);
-        fails = λ e. totals-accepted ∙ first-applies Refused (total_cases (plan_of chart) table figures) sums NotPassing (fails-first e);
+        short = λ e. totals-accepted ∙ first-applies Err (total_cases (plan_of chart) table figures) sums ShortBuffer (short-first e);
+        fails = λ e. totals-accepted ∙ first-applies Err (total_cases (plan_of chart) table figures) sums NotPassing (fails-first e);
       }
 
 -- ---- numbers
@@ -137,19 +135,19 @@ pub totals-numbers : (bytes : List ℕ) (table : Lent) (figures : Figures) → (
 unfolding totals
 totals-numbers bytes table figures = go (read_chart bytes) refl
   where
-    answer : (chart : Chart) (t : Totals) → first_case Refused (total_cases (plan_of chart) table figures) (Between (low_total (plan_of chart) (table_of (plan_of chart) table) figures) (high_total (plan_of chart) (table_of (plan_of chart) table) figures)) ≡ t
+    answer : (chart : Chart) (t : Result Totals Refusal) → first_case Err (total_cases (plan_of chart) table figures) (totals_between (low_total (plan_of chart) (table_of (plan_of chart) table) figures) (high_total (plan_of chart) (table_of (plan_of chart) table) figures)) ≡ t
         → ((totals_say t).number ≤ 17) × ((totals_say t).number ≡ 12 → ⊥)
-    answer chart (Between low high) e = (omega arith, λ q. omega arith)
-    answer chart (Refused refusal) e =
+    answer chart (Ok sums) e = (omega arith, λ q. omega arith)
+    answer chart (Err refusal) e =
         used-says refusal
         (answer-passes used (total_cases (plan_of chart) table figures) refusal refl
-        (applies-first Refused (total_cases (plan_of chart) table figures) (Between (low_total (plan_of chart) (table_of (plan_of chart) table) figures) (high_total (plan_of chart) (table_of (plan_of chart) table) figures)) refusal (λ a b q. cc) (λ q. let z : ◌≡◌ {A = ℕ} 0 1 = cc in omega arith) e))
+        (applies-first Err (total_cases (plan_of chart) table figures) (totals_between (low_total (plan_of chart) (table_of (plan_of chart) table) figures) (high_total (plan_of chart) (table_of (plan_of chart) table) figures)) refusal (λ a b q. cc) (λ q. let z : ◌≡◌ {A = ℕ} 0 1 = cc in omega arith) e))
 
     go : (r : Read) → read_chart bytes ≡ r → ((totals_say (total_read table figures r)).number ≤ 17) × ((totals_say (total_read table figures r)).number ≡ 12 → ⊥)
-    go (accepted chart) e = answer chart (first_case Refused (total_cases (plan_of chart) table figures) (Between (low_total (plan_of chart) (table_of (plan_of chart) table) figures) (high_total (plan_of chart) (table_of (plan_of chart) table) figures))) refl
+    go (accepted chart) e = answer chart (first_case Err (total_cases (plan_of chart) table figures) (totals_between (low_total (plan_of chart) (table_of (plan_of chart) table) figures) (high_total (plan_of chart) (table_of (plan_of chart) table) figures))) refl
     go (refused refusal) e = used-says refusal (answer-passes used (chart_cases bytes) refusal refl (reading-refusals.only bytes refusal e))
 
-pub totals_refusal : (bytes : List ℕ) (table : Lent) (figures : Figures) (refusal : Refusal) → totals bytes table figures ≡ Refused refusal
+pub totals_refusal : (bytes : List ℕ) (table : Lent) (figures : Figures) (refusal : Refusal) → totals bytes table figures ≡ Err refusal
     → totals_say (totals bytes table figures) ≡ record { number = number_of refusal; place = place_of refusal; low = 0; high = 0 }
 totals_refusal bytes table figures refusal e = ap totals_say e
 
@@ -164,9 +162,9 @@ module _ (bytes : List ℕ) (chart : Chart) (one other : Lent) (figures : Figure
   total-same : (total : List (Cell Ages) → ℕ) → total (table_of (plan_of chart) one) ≡ total (table_of (plan_of chart) other)
   total-same total = ap total (used-table (plan_of chart) one other same)
 
-  abbrev answer_by : Bool → Bool → ℕ → ℕ → ℕ → Totals
+  abbrev answer_by : Bool → Bool → ℕ → ℕ → ℕ → Result Totals Refusal
   answer_by short pass unmarked low high =
-      first_case Refused
+      first_case Err
       ((short ⇒ ShortBuffer)
       ∷ (not pass ⇒ NotPassing)
       ∷ (not (eqb (length figures.floors) chart.header.nodes && eqb (length figures.ceilings) chart.header.nodes) ⇒ BoundsLength)
@@ -174,7 +172,7 @@ module _ (bytes : List ℕ) (chart : Chart) (one other : Lent) (figures : Figure
       ∷ (ltb (first_crossed (plan_of chart) figures) chart.header.nodes ⇒ FloorAboveCeiling (first_crossed (plan_of chart) figures))
       ∷ (ltb unmarked chart.header.nodes ⇒ FloorAtUnmarked unmarked)
       ∷ [])
-      (Between low high)
+      (totals_between low high)
 
   pub totals_used : totals bytes one figures ≡ totals bytes other figures
   totals_used =

@@ -1,4 +1,5 @@
 -- Of demand 1: the writer refuses exactly where a rule applies to what it is given, and reading a node and the blocks refuse as the reader does.
+use Rattle.std.specs.Prelude.{Err, None, Ok, Result, Some}
 use Prim.Native.Nat.{ℕ, ◌+◌, ◌*◌, ◌^◌, ◌≤◌, ◌<◌}
 use mathlib.Core.Bool.{Bool, true, false, cond, true≢false}
 use mathlib.Core.List.{List}
@@ -22,13 +23,8 @@ use Rattle.chart.specs.Chart.{Chart, Read, accepted, refused, read_chart, record
 use Rattle.chart.proofs.Bytes.{record-bytes}
 use Rattle.chart.proofs.Keeping.{tells-record}
 use Rattle.chart.proofs.Refusing.{fields-tell, fields-numbered, fields-answered}
-use Rattle.fields.specs.declared.NodeRead.TheVariants.{Node, NoNode}
-use Rattle.fields.specs.declared.BlocksRead.TheVariants.{Blocks}
 use Rattle.fields.specs.Fields.{node_read, node_says, read_node_says, refuse_blocks, blocks_read, blocks_say, read_blocks_say}
 use Rattle.writer.specs.declared.heading.Heading.{Heading}
-use Rattle.writer.specs.declared.writing.Wrote.{Wrote}
-use Rattle.writer.specs.declared.writing.Wrote.TheVariants.{Bytes}
-use Rattle.writer.specs.declared.writing.Wrote.TheVariants.{Refused as WriterRefused}
 use Rattle.writer.specs.Packing.{chart_bytes}
 use Rattle.writer.specs.Given.{NodeLists, header_given, listed, all_long, AllLong}
 use Rattle.writer.specs.Writer.{WriteLeft, room_cases, write_cases, stored, refuse_writing, wrote, wrote_says}
@@ -70,17 +66,17 @@ module _ (heading : Heading) (lists : NodeLists) (lent : List ℕ) where
       (room_cases heading.nodes lent) (λ _. inl refl) refusal h)
 
   -- The first rule that applies is the answer's, and the answer is the first's.
-  answer-of : (wrote heading lists lent).answer ≡ first_case WriterRefused cases (Bytes (chart_length heading.nodes))
+  answer-of : (wrote heading lists lent).answer ≡ first_case Err cases (Ok (chart_length heading.nodes))
   unfolding wrote
   answer-of = first-through (λ (left : WriteLeft). left.answer) (refuse_writing lent) cases (stored heading lists lent)
 
-  pub refused-first : (refusal : Refusal) → (wrote heading lists lent).answer ≡ WriterRefused refusal → FirstApplies cases refusal
+  pub refused-first : (refusal : Refusal) → (wrote heading lists lent).answer ≡ Err refusal → FirstApplies cases refusal
   refused-first refusal e =
-      applies-first WriterRefused cases (Bytes (chart_length heading.nodes)) refusal (λ a b q. cc) (λ q. let z : ◌≡◌ {A = ℕ} 0 1 = cc in omega arith) (sym answer-of ∙ e)
+      applies-first Err cases (Ok (chart_length heading.nodes)) refusal (λ a b q. cc) (λ q. let z : ◌≡◌ {A = ℕ} 0 1 = cc in omega arith) (sym answer-of ∙ e)
 
-  pub written_none : (count : ℕ) → (wrote heading lists lent).answer ≡ Bytes count → NoneApplies cases
+  pub written_none : (count : ℕ) → (wrote heading lists lent).answer ≡ Ok count → NoneApplies cases
   written_none count e =
-      none-applies WriterRefused cases (Bytes (chart_length heading.nodes)) (Bytes count) (λ x q. let z : ◌≡◌ {A = ℕ} 0 1 = cc in omega arith) (sym answer-of ∙ e)
+      none-applies Err cases (Ok (chart_length heading.nodes)) (Ok count) (λ x q. let z : ◌≡◌ {A = ℕ} 0 1 = cc in omega arith) (sym answer-of ∙ e)
 
   pub first-refused : (refusal : Refusal) → FirstApplies cases refusal → wrote heading lists lent ≡ refuse_writing lent refusal
   unfolding wrote
@@ -92,19 +88,19 @@ module _ (heading : Heading) (lists : NodeLists) (lent : List ℕ) where
 
   -- ---- what follows
 
-  refused-only : (refusal : Refusal) → (wrote heading lists lent).answer ≡ WriterRefused refusal → applies refusal × NoneBeforeGiven heading lists lent refusal
+  refused-only : (refusal : Refusal) → (wrote heading lists lent).answer ≡ Err refusal → applies refusal × NoneBeforeGiven heading lists lent refusal
   refused-only refusal e =
       let only = first-only number_of applies 1 cases all-numbered all_tell refusal (refused-first refusal e) in
       (only.0, λ other less h. only.1 other (answered other h) less h)
 
-  count_is : (count : ℕ) → (wrote heading lists lent).answer ≡ Bytes count → count ≡ 8 + 8 * heading.nodes
+  count_is : (count : ℕ) → (wrote heading lists lent).answer ≡ Ok count → count ≡ 8 + 8 * heading.nodes
   count_is count e =
-      let same : Bytes count ≡ Bytes (chart_length heading.nodes) = sym e ∙ ap (λ (left : WriteLeft). left.answer) (none_written (written_none count e)) in
+      let same : Ok count ≡ Ok (chart_length heading.nodes) = sym e ∙ ap (λ (left : WriteLeft). left.answer) (none_written (written_none count e)) in
       cc
 
-  number-below : (a : Wrote) → (wrote heading lists lent).answer ≡ a → ((wrote_says a).number ≤ 11) × (((wrote_says a).number ≡ 1 → ⊥) × (((wrote_says a).number ≡ 2 → ⊥) × ((wrote_says a).number ≡ 7 → ⊥)))
-  number-below (Bytes count) e = (omega arith, ((λ q. omega arith), ((λ q. omega arith), λ q. omega arith)))
-  number-below (WriterRefused refusal) e = by_row refusal (refused-only refusal e).0
+  number-below : (a : Result ℕ Refusal) → (wrote heading lists lent).answer ≡ a → ((wrote_says a).number ≤ 11) × (((wrote_says a).number ≡ 1 → ⊥) × (((wrote_says a).number ≡ 2 → ⊥) × ((wrote_says a).number ≡ 7 → ⊥)))
+  number-below (Ok count) e = (omega arith, ((λ q. omega arith), ((λ q. omega arith), λ q. omega arith)))
+  number-below (Err refusal) e = by_row refusal (refused-only refusal e).0
     where
       by_row : (r : Refusal) → applies r → (number_of r ≤ 11) × ((number_of r ≡ 1 → ⊥) × ((number_of r ≡ 2 → ⊥) × (number_of r ≡ 7 → ⊥)))
       by_row TooShort h = absurd h
@@ -130,9 +126,9 @@ module _ (heading : Heading) (lists : NodeLists) (lent : List ℕ) where
       by_row (CertificateFails n) h = absurd h
 
   -- The buffer is as long as it was.
-  long-left : (a : Wrote) → (wrote heading lists lent).answer ≡ a → length (wrote heading lists lent).chart ≡ length lent
-  long-left (WriterRefused refusal) e = ap (λ (left : WriteLeft). length left.chart) (first-refused refusal (refused-first refusal e))
-  long-left (Bytes count) e =
+  long-left : (a : Result ℕ Refusal) → (wrote heading lists lent).answer ≡ a → length (wrote heading lists lent).chart ≡ length lent
+  long-left (Err refusal) e = ap (λ (left : WriteLeft). length left.chart) (first-refused refusal (refused-first refusal e))
+  long-left (Ok count) e =
       let none = written_none count e in
       let room = ltb-false (length lent) (chart_length heading.nodes) none.1.1.1.1.1.1.1.1.1.0 in
       ap (λ (left : WriteLeft). length left.chart) (none_written none)
@@ -143,7 +139,7 @@ module _ (heading : Heading) (lists : NodeLists) (lent : List ℕ) where
   wide (inr (inl h)) keeps = omega (arith, keeps.sets_to)
   wide (inr (inr h)) keeps = omega (arith, keeps.ways_to)
 
-  tail : (count k : ℕ) → (wrote heading lists lent).answer ≡ Bytes count → count ≤ k → get_or (wrote heading lists lent).chart k 0 ≡ get_or lent k 0
+  tail : (count k : ℕ) → (wrote heading lists lent).answer ≡ Ok count → count ≤ k → get_or (wrote heading lists lent).chart k 0 ≡ get_or lent k 0
   tail count k e h =
       let bytes = chart_bytes (header_given heading) (listed lists) heading.nodes in
       ap (λ (left : WriteLeft). get_or left.chart k 0) (none_written (written_none count e))
@@ -178,17 +174,17 @@ blocks-long bytes lent (refused refusal) e = rw e
 blocks-long bytes lent (accepted chart) e = rw e (go (ltb (length lent) (block_count chart)) refl)
   where
     go : (t : Bool) → ltb (length lent) (block_count chart) ≡ t
-        → length (cond t (refuse_blocks lent ShortBuffer) (record { answer = Blocks (block_count chart); blocks = written chart.blocks lent })).blocks ≡ length lent
+        → length (cond t (refuse_blocks lent ShortBuffer) (record { answer = Ok (block_count chart); blocks = written chart.blocks lent })).blocks ≡ length lent
     go true q = refl
     go false q = written_long chart.blocks lent (ltb-false (length lent) (block_count chart) q)
 
-blocks-tail : (bytes lent : List ℕ) (count k : ℕ) (r : Read) → read_chart bytes ≡ r → (blocks_read bytes lent).answer ≡ Blocks count → count ≤ k → get_or (blocks_read bytes lent).blocks k 0 ≡ get_or lent k 0
+blocks-tail : (bytes lent : List ℕ) (count k : ℕ) (r : Read) → read_chart bytes ≡ r → (blocks_read bytes lent).answer ≡ Ok count → count ≤ k → get_or (blocks_read bytes lent).blocks k 0 ≡ get_or lent k 0
 unfolding blocks_read
 blocks-tail bytes lent count k (refused refusal) e q h = rw e
 blocks-tail bytes lent count k (accepted chart) e q h = rw e (go (ltb (length lent) (block_count chart)) (rw e at q))
   where
-    go : (t : Bool) → (cond t (refuse_blocks lent ShortBuffer) (record { answer = Blocks (block_count chart); blocks = written chart.blocks lent })).answer ≡ Blocks count
-        → get_or (cond t (refuse_blocks lent ShortBuffer) (record { answer = Blocks (block_count chart); blocks = written chart.blocks lent })).blocks k 0 ≡ get_or lent k 0
+    go : (t : Bool) → (cond t (refuse_blocks lent ShortBuffer) (record { answer = Ok (block_count chart); blocks = written chart.blocks lent })).answer ≡ Ok count
+        → get_or (cond t (refuse_blocks lent ShortBuffer) (record { answer = Ok (block_count chart); blocks = written chart.blocks lent })).blocks k 0 ≡ get_or lent k 0
     go true d = refl
     go false d =
         let same : block_count chart ≡ count = cc in
@@ -198,7 +194,7 @@ node-below : (bytes : List ℕ) (n : ℕ) (r : Read) → read_chart bytes ≡ r 
 unfolding node_read
 node-below bytes n (accepted chart) e = rw e (go (ltb n chart.header.nodes))
   where
-    go : (t : Bool) → (node_says (cond t (Node (records_in bytes n)) NoNode)).number ≤ 10
+    go : (t : Bool) → (node_says (cond t (Ok (Some (records_in bytes n))) (Ok None))).number ≤ 10
     go true = omega arith
     go false = omega arith
 node-below bytes n (refused refusal) e = rw e (read-most bytes refusal e)
@@ -207,12 +203,12 @@ blocks-below : (bytes lent : List ℕ) (r : Read) → read_chart bytes ≡ r →
 unfolding blocks_read
 blocks-below bytes lent (accepted chart) e = rw e (go (ltb (length lent) (block_count chart)))
   where
-    go : (t : Bool) → (blocks_say (cond t (refuse_blocks lent ShortBuffer) (record { answer = Blocks (block_count chart); blocks = written chart.blocks lent })).answer).number ≤ 11
+    go : (t : Bool) → (blocks_say (cond t (refuse_blocks lent ShortBuffer) (record { answer = Ok (block_count chart); blocks = written chart.blocks lent })).answer).number ≤ 11
     go true = omega arith
     go false = omega arith
 blocks-below bytes lent (refused refusal) e = rw e (omega (arith, read-most bytes refusal e))
 
-pub node-there : (bytes : List ℕ) (chart : Chart) (n : ℕ) → read_chart bytes ≡ accepted chart → n < chart.header.nodes → node_read bytes n ≡ Node (records_in bytes n)
+pub node-there : (bytes : List ℕ) (chart : Chart) (n : ℕ) → read_chart bytes ≡ accepted chart → n < chart.header.nodes → node_read bytes n ≡ Ok (Some (records_in bytes n))
 unfolding node_read
 node-there bytes chart n e h = rw (e, lt-ltb n chart.header.nodes h)
 
@@ -222,7 +218,7 @@ fields-refusals =
     record {
       to_node = λ bytes refusal n e. rw e;
       to_blocks = λ bytes refusal lent e. rw e;
-      there = λ bytes chart n small e h. node-there bytes chart n e h ∙ ap Node (record-bytes bytes small n);
+      there = λ bytes chart n small e h. node-there bytes chart n e h ∙ (λ i. Ok (Some (record-bytes bytes small n i)));
       not_there = λ bytes chart n e h. rw (e, le-ltb n chart.header.nodes h);
       listed_blocks = λ bytes chart lent e h. rw (e, le-ltb (length lent) (block_count chart) h);
       short_blocks = λ bytes chart lent e h. rw (e, lt-ltb (length lent) (block_count chart) h);

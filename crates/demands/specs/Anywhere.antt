@@ -1,7 +1,7 @@
 -- What is so at every node, place, length and number, however large. Soundings are of small charts: a rule that changes from some number on, in
 -- definition and code alike, would pass them all. The limits stand here as numbers, and not by name. Rules 1.4, 3.3, 6.3 to 6.5, 8.1, 8.2, 10.2,
 -- 10.3, 11.0, 12.2, 13.1 to 13.3, 14.1, 14.2, 14.4, 15.2, 15.5, 16.3, 16.4, 18.1 and 18.2. `anywhere` in proofs/Anywhere.antt proves it.
-use Rattle.std.specs.Prelude.{ℕ, suc, ◌+◌, ◌*◌, ◌/◌, ◌%◌, ◌≤◌, ◌<◌, List, [], ◌∷◌, ◌++◌, ◌≡◌, length, get_or, take}
+use Rattle.std.specs.Prelude.{ℕ, suc, ◌+◌, ◌*◌, ◌/◌, ◌%◌, ◌≤◌, ◌<◌, List, [], ◌∷◌, ◌++◌, ◌≡◌, length, get_or, take, Result}
 use Rattle.lists.specs.Slices.{Slice}
 use Rattle.lists.specs.Lists.{list_of, joined, written}
 use Rattle.refusals.specs.declared.Refusal.TheVariants.{BrokenRecord, TooManyBlocks, FloorAboveCeiling, FloorAtUnmarked, CertificateFails}
@@ -22,14 +22,14 @@ use Rattle.kept.specs.Kept.{since_at, kept_flow}
 use Rattle.classes.specs.Class.{Whole, class_of, node_class, table_classes}
 use Rattle.costs.specs.Costs.{visit_cost, classes_at}
 use Rattle.tables.specs.Contract.{entry_table}
-use Rattle.analysis.specs.declared.Analysed.{Analysed}
-use Rattle.analysis.specs.declared.Analysed.TheVariants.{Settled}
-use Rattle.analysis.specs.Analysis.{Left, entry_buffers, exit_left, analysed}
+use Rattle.analysis.specs.Analysis.{Left, entry_buffers, exit_left, analysed, settled_after}
 use Rattle.totals.specs.Totals.{entry_figures}
 use Rattle.certificate.specs.Bound.{asked}
 use Rattle.report.specs.Text.{nodes_word, blocks_word, passes_word, decimal_by, decimal}
 use Rattle.report.specs.Report.{taken, class_word, node_line, zero_buffers, report_of, report_left, report}
 use Rattle.report.specs.Ending.{refused_by, refuses}
+use Rattle.analysis.specs.declared.Unanalysed.{Unanalysed}
+use Rattle.analysis.specs.declared.SettledAfter.{SettledAfter}
 
 -- Rules 1.4 and 13.2: what the analysis leaves of an input in the program's buffers, under the program's allowance.
 abbrev pub program_left : List ℕ → Left
@@ -55,7 +55,7 @@ pub record Anywhere : Type 0 where
   pub refused_alike : (input : List ℕ) → refuses input ≡ refused_by (program_left input).answer
   -- rules 14.1 and 14.2: the first line, and then a line for each node
   pub report_lines : (nodes passes blocks : ℕ) (classes : List ℕ)
-      → report_of nodes classes (Settled passes blocks)
+      → report_of nodes classes (settled_after passes blocks)
       ≡ nodes_word ++ (32 ∷ []) ++ decimal nodes ++ (32 ∷ []) ++ blocks_word ++ (32 ∷ []) ++ decimal blocks ++ (32 ∷ [])
       ++ passes_word ++ (32 ∷ []) ++ decimal passes ++ (10 ∷ [])
       ++ joined (list_of nodes (node_line classes))
@@ -121,7 +121,7 @@ pub record Anywhere : Type 0 where
         marks = marks;
         classes = classes;
       }
-  pub buffers_left : (blocks must may marks classes : List ℕ) (answer : Analysed)
+  pub buffers_left : (blocks must may marks classes : List ℕ) (answer : Result SettledAfter Unanalysed)
       → exit_left blocks must may marks classes answer
       ≡ record {
         answer = answer;

@@ -1,6 +1,6 @@
 -- What the bound of a certificate says of walks. Rules 5.1 to 5.3, 10.1 to 10.4 and 18.1 to 18.9. `certified` in proofs/Certified.antt proves it.
 -- That a walk keeps the facts is for the caller to know: of a walk that does not, nothing is said.
-use Rattle.std.specs.Prelude.{ℕ, ◌+◌, ◌*◌, ◌≤◌, ◌<◌, true, List, ◌∷◌, ◌≡◌}
+use Rattle.std.specs.Prelude.{ℕ, ◌+◌, ◌*◌, ◌≤◌, ◌<◌, true, List, ◌∷◌, ◌≡◌, Ok}
 use Rattle.lists.specs.Lists.{sum_of}
 use Rattle.chart.specs.Chart.{Chart, accepted, read_chart}
 use Rattle.flow.specs.Walk.{last_of, visits_of}
@@ -12,10 +12,8 @@ use Rattle.ages.specs.Charted.{plan_of}
 use Rattle.machine.specs.Machine.{Contents, cost_of}
 use Rattle.costs.specs.Costs.{Figures}
 use Rattle.tables.specs.Lent.{Lent}
-use Rattle.totals.specs.declared.Totals.TheVariants.{Between}
-use Rattle.totals.specs.Totals.{totals}
+use Rattle.totals.specs.Totals.{totals, totals_between}
 use Rattle.deadline.specs.Widths.{SixteenBits}
-use Rattle.certificate.specs.declared.Bounded.TheVariants.{At}
 use Rattle.certificate.specs.Bound.{Question, claim_of, bounded}
 use Rattle.demands.specs.Demand3.{OnWalk, VisitsWithin}
 use Rattle.demands.specs.AsFacts.{visit_facts, visit_question}
@@ -40,20 +38,20 @@ pub record Certified : Type 0 where
       → OnWalk bytes chart contents ts
       → WalkKeeps chart question ts
       → question.side ≡ High
-      → bounded bytes table question ≡ At bound
+      → bounded bytes table question ≡ Ok bound
       → cost_in chart question ts contents ≤ bound
   -- and none less than the low one
   pub no_less : (bytes : List ℕ) (chart : Chart) (table : Lent) (question : Question) (contents : Contents chart) (ts : List ℕ) (bound : ℕ)
       → OnWalk bytes chart contents ts
       → WalkKeeps chart question ts
       → question.side ≡ Low
-      → bounded bytes table question ≡ At bound
+      → bounded bytes table question ≡ Ok bound
       → bound ≤ cost_in chart question ts contents
   -- what it goes by: wherever a walk stops, what its visits are left with, added up, is no more than the potential of its last node, whether it keeps the
   -- facts or not. What is below 0 stands on the other side
   pub along : (bytes : List ℕ) (chart : Chart) (table : Lent) (question : Question) (contents : Contents chart) (ts : List ℕ) (bound : ℕ)
       → OnWalk bytes chart contents ts
-      → bounded bytes table question ≡ At bound
+      → bounded bytes table question ≡ Ok bound
       → LeftWithin (claim_of (plan_of chart) table question) (λ n. visits_of n (chart.header.entry ∷ ts)) (last_of chart.header.entry ts)
   -- rule 18.7: a walk that keeps the facts does not come to a node that one of them rules out
   pub ruled_out-zero : (chart : Chart) (question : Question) (ts : List ℕ) (n : ℕ)
@@ -72,10 +70,10 @@ pub record Certified : Type 0 where
   pub high-total : (bytes : List ℕ) (chart : Chart) (table : Lent) (figures : Figures) (low high : ℕ)
       → read_chart bytes ≡ accepted chart
       → SixteenBits figures
-      → totals bytes table figures ≡ Between low high
-      → bounded bytes table (visit_question (plan_of chart) table figures High) ≡ At high
+      → totals bytes table figures ≡ totals_between low high
+      → bounded bytes table (visit_question (plan_of chart) table figures High) ≡ Ok high
   pub low-total : (bytes : List ℕ) (chart : Chart) (table : Lent) (figures : Figures) (low high : ℕ)
       → read_chart bytes ≡ accepted chart
       → SixteenBits figures
-      → totals bytes table figures ≡ Between low high
-      → bounded bytes table (visit_question (plan_of chart) table figures Low) ≡ At low
+      → totals bytes table figures ≡ totals_between low high
+      → bounded bytes table (visit_question (plan_of chart) table figures Low) ≡ Ok low

@@ -3,13 +3,11 @@
 -- The definitions answer for every input whatever; this is what they say of each refusal of the reader, of the header alone, of the analysis, of the
 -- checker, of the totals, of a deadline, of a certificate's bound, of the writer, of a node read alone and of the blocks listed: rules 3.4, 11.0 to 11.18,
 -- 11.23 to 11.25, 12.1 to 12.3, 12.5 to 12.8, 15.1 to 15.6, 17.5 and 18.9. Proved as `demand1` in proofs/Demand1.antt.
-use Rattle.std.specs.Prelude.{ℕ, ◌*◌, ◌≤◌, ◌<◌, ◌≡◌, true, false, List, [], ◌∷◌, ◌⊎◌, length, replicate, get_or}
+use Rattle.std.specs.Prelude.{ℕ, ◌*◌, ◌≤◌, ◌<◌, ◌≡◌, true, false, List, [], ◌∷◌, ◌⊎◌, length, replicate, get_or, Err, Ok}
 use Rattle.lists.specs.Lists.{padded}
 use Rattle.lists.specs.Choice.{FirstApplies}
 use Rattle.refusals.specs.declared.Refusal.{Refusal}
 use Rattle.refusals.specs.declared.Refusal.TheVariants.{ShortBuffer, NotPassing}
-use Rattle.chart.specs.declared.headers.HeaderRead.TheVariants.{Refused as HeaderRefused}
-use Rattle.chart.specs.declared.readings.Verdict.TheVariants.{Accepted as ReaderAccepted, Refused as ReaderRefused}
 use Rattle.chart.specs.Geometry.{most_blocks}
 use Rattle.blocks.specs.Exactly.{Exactly}
 use Rattle.chart.specs.declared.records.RecordFields.{RecordFields}
@@ -17,22 +15,16 @@ use Rattle.chart.specs.Bytes.{AreBytes}
 use Rattle.chart.specs.Refusing.{Applies, record_blocks, blocks_before}
 use Rattle.chart.specs.Saying.{Says}
 use Rattle.chart.specs.Header.{bytes_cases, header_read, read_header_says}
-use Rattle.chart.specs.Reading.{reading, read_says}
+use Rattle.chart.specs.Reading.{reading, read_says, outlined}
 use Rattle.chart.specs.Chart.{Chart, accepted, refused, read_chart, chart_cases, block_count}
 use Rattle.refusals.specs.Refusals.{number_of, place_of}
 use Rattle.flow.specs.Pass.{pass, after_passes}
 use Rattle.ages.specs.Charted.{plan_of, ages_flow}
 use Rattle.costs.specs.Costs.{Figures, low_total, high_total}
 use Rattle.tables.specs.Lent.{Lent, table_of, table_short, SameUsed, TablePasses}
-use Rattle.analysis.specs.Analysis.{Buffers, table_in, buffers_short, filled_by_zeros, analysed, analyse_says}
-use Rattle.analysis.specs.declared.Analysed.TheVariants.{Settled, Unsettled}
-use Rattle.analysis.specs.declared.Analysed.TheVariants.{Refused as AnalysisRefused}
-use Rattle.checker.specs.declared.Checked.TheVariants.{Yes, No}
-use Rattle.checker.specs.declared.Checked.TheVariants.{Refused as CheckerRefused}
+use Rattle.analysis.specs.Analysis.{Buffers, table_in, buffers_short, filled_by_zeros, analysed, analyse_says, settled_after, analysis_refused, unsettled}
 use Rattle.checker.specs.Checker.{checked, check_says}
-use Rattle.totals.specs.declared.Totals.TheVariants.{Between}
-use Rattle.totals.specs.declared.Totals.TheVariants.{Refused as TotalsRefused}
-use Rattle.totals.specs.Totals.{total_cases, totals, total_says}
+use Rattle.totals.specs.Totals.{total_cases, totals, total_says, totals_between}
 use Rattle.writer.specs.declared.heading.Heading.{Heading}
 use Rattle.writer.specs.Given.{NodeLists}
 use Rattle.demands.specs.Ordered.{numbers_of}
@@ -68,22 +60,22 @@ pub record ReadingRefusals : Type 0 where
   pub only : (bytes : List ℕ) (refusal : Refusal) → read_chart bytes ≡ refused refusal → FirstApplies (chart_cases bytes) refusal
   -- reading the header alone gives 1 to 8, exactly by their rules, as reading the whole does
   pub header_order : (bytes : List ℕ) → numbers_of (bytes_cases bytes) ≡ 1 ∷ 2 ∷ 3 ∷ 4 ∷ 5 ∷ 6 ∷ 7 ∷ 8 ∷ []
-  pub header-given : (bytes : List ℕ) (refusal : Refusal) → FirstApplies (bytes_cases bytes) refusal → header_read bytes ≡ HeaderRefused refusal
-  pub header_only : (bytes : List ℕ) (refusal : Refusal) → header_read bytes ≡ HeaderRefused refusal → FirstApplies (bytes_cases bytes) refusal
-  pub from_header : (bytes : List ℕ) (refusal : Refusal) → header_read bytes ≡ HeaderRefused refusal → read_chart bytes ≡ refused refusal
-  pub to_reader : (bytes : List ℕ) (refusal : Refusal) → read_chart bytes ≡ refused refusal → reading bytes ≡ record { verdict = ReaderRefused refusal; blocks = replicate most_blocks 0 }
+  pub header-given : (bytes : List ℕ) (refusal : Refusal) → FirstApplies (bytes_cases bytes) refusal → header_read bytes ≡ Err refusal
+  pub header_only : (bytes : List ℕ) (refusal : Refusal) → header_read bytes ≡ Err refusal → FirstApplies (bytes_cases bytes) refusal
+  pub from_header : (bytes : List ℕ) (refusal : Refusal) → header_read bytes ≡ Err refusal → read_chart bytes ≡ refused refusal
+  pub to_reader : (bytes : List ℕ) (refusal : Refusal) → read_chart bytes ≡ refused refusal → reading bytes ≡ record { verdict = Err refusal; blocks = replicate most_blocks 0 }
   pub to_reader_accepted : (bytes : List ℕ) (chart : Chart)
       → read_chart bytes ≡ accepted chart
-      → reading bytes ≡ record { verdict = ReaderAccepted chart.header (block_count chart); blocks = padded most_blocks chart.blocks }
+      → reading bytes ≡ record { verdict = outlined chart.header (block_count chart); blocks = padded most_blocks chart.blocks }
   pub to_analysis : (bytes : List ℕ) (refusal : Refusal) (allowance : ℕ) (lent : Buffers)
       → read_chart bytes ≡ refused refusal
-      → analysed bytes allowance lent ≡ record { answer = AnalysisRefused refusal; buffers = lent }
+      → analysed bytes allowance lent ≡ record { answer = analysis_refused refusal; buffers = lent }
   pub to_checker : (bytes : List ℕ) (refusal : Refusal) (table : Lent)
       → read_chart bytes ≡ refused refusal
-      → checked bytes table ≡ CheckerRefused refusal
+      → checked bytes table ≡ Err refusal
   pub to_totals : (bytes : List ℕ) (refusal : Refusal) (table : Lent) (figures : Figures)
       → read_chart bytes ≡ refused refusal
-      → totals bytes table figures ≡ TotalsRefused refusal
+      → totals bytes table figures ≡ Err refusal
   -- the same of bytes, rule by rule, as statements: a refusal is given exactly if its rule applies and none of a smaller number does
   pub row_given : (bytes : List ℕ) (refusal : Refusal)
       → AreBytes bytes
@@ -123,20 +115,20 @@ pub record HasRoom (chart : Chart) (lent : Buffers) : Type 0 where
 pub record AnalysisRefusals (bytes : List ℕ) (chart : Chart) (allowance : ℕ) (lent : Buffers) : Type 0 where
   pub not_short : HasRoom chart lent → buffers_short (plan_of chart) lent ≡ false
   pub has_room : buffers_short (plan_of chart) lent ≡ false → HasRoom chart lent
-  pub short : buffers_short (plan_of chart) lent ≡ true → analysed bytes allowance lent ≡ record { answer = AnalysisRefused ShortBuffer; buffers = lent }
+  pub short : buffers_short (plan_of chart) lent ≡ true → analysed bytes allowance lent ≡ record { answer = analysis_refused ShortBuffer; buffers = lent }
   pub unsettled : buffers_short (plan_of chart) lent ≡ false
       → AllChange chart allowance
-      → analysed bytes allowance lent ≡ record { answer = Unsettled allowance (block_count chart); buffers = filled_by_zeros (plan_of chart) chart.blocks lent }
+      → analysed bytes allowance lent ≡ record { answer = unsettled allowance (block_count chart); buffers = filled_by_zeros (plan_of chart) chart.blocks lent }
   pub settled : buffers_short (plan_of chart) lent ≡ false
       → (AllChange chart allowance → ⊥)
-      → (passes : ℕ) × ((analysed bytes allowance lent).answer ≡ Settled passes (block_count chart))
+      → (passes : ℕ) × ((analysed bytes allowance lent).answer ≡ settled_after passes (block_count chart))
 
 -- Rules 11.11 and 12.5, of the checker of an accepted chart's table: 11 if it is short, which is where it has no room, else yes or no.
 pub record CheckerRefusals (bytes : List ℕ) (chart : Chart) (table : Lent) : Type 0 where
   pub not_short : TableRoom chart table → table_short (plan_of chart) table ≡ false
   pub has_room : table_short (plan_of chart) table ≡ false → TableRoom chart table
-  pub short : table_short (plan_of chart) table ≡ true → checked bytes table ≡ CheckerRefused ShortBuffer
-  pub answers : table_short (plan_of chart) table ≡ false → (checked bytes table ≡ Yes) ⊎ (checked bytes table ≡ No)
+  pub short : table_short (plan_of chart) table ≡ true → checked bytes table ≡ Err ShortBuffer
+  pub answers : table_short (plan_of chart) table ≡ false → (checked bytes table ≡ Ok true) ⊎ (checked bytes table ≡ Ok false)
 
 -- Rules 11.14 and 11.15 do not apply: floors and ceilings are as many as nodes, and a miss is no cheaper than a hit.
 pub record FiguresFit (chart : Chart) (figures : Figures) : Type 0 where
@@ -154,14 +146,14 @@ pub record Summable (chart : Chart) (table : Lent) (figures : Figures) : Type 0 
 -- Rule 12.6, of the totals of an accepted chart: exactly the first of 11 and 13 to 17 that applies, else the two sums. 11 and 13 are the
 -- checker's refusal and its no.
 pub record TotalsRefusals (bytes : List ℕ) (chart : Chart) (table : Lent) (figures : Figures) : Type 0 where
-  pub given : (refusal : Refusal) → FirstApplies (total_cases (plan_of chart) table figures) refusal → totals bytes table figures ≡ TotalsRefused refusal
-  pub only : (refusal : Refusal) → totals bytes table figures ≡ TotalsRefused refusal → FirstApplies (total_cases (plan_of chart) table figures) refusal
+  pub given : (refusal : Refusal) → FirstApplies (total_cases (plan_of chart) table figures) refusal → totals bytes table figures ≡ Err refusal
+  pub only : (refusal : Refusal) → totals bytes table figures ≡ Err refusal → FirstApplies (total_cases (plan_of chart) table figures) refusal
   pub order : numbers_of (total_cases (plan_of chart) table figures) ≡ 11 ∷ 13 ∷ 14 ∷ 15 ∷ 16 ∷ 17 ∷ []
   pub sums : Summable chart table figures
-      → totals bytes table figures ≡ Between (low_total (plan_of chart) (table_of (plan_of chart) table) figures) (high_total (plan_of chart) (table_of (plan_of chart) table) figures)
-  pub only_sums : (low high : ℕ) → totals bytes table figures ≡ Between low high → Summable chart table figures
-  pub short : checked bytes table ≡ CheckerRefused ShortBuffer → totals bytes table figures ≡ TotalsRefused ShortBuffer
-  pub fails : checked bytes table ≡ No → totals bytes table figures ≡ TotalsRefused NotPassing
+      → totals bytes table figures ≡ totals_between (low_total (plan_of chart) (table_of (plan_of chart) table) figures) (high_total (plan_of chart) (table_of (plan_of chart) table) figures)
+  pub only_sums : (low high : ℕ) → totals bytes table figures ≡ totals_between low high → Summable chart table figures
+  pub short : checked bytes table ≡ Err ShortBuffer → totals bytes table figures ≡ Err ShortBuffer
+  pub fails : checked bytes table ≡ Ok false → totals bytes table figures ≡ Err NotPassing
 
 pub record Demand1 : Type 0 where
   pub readings : ReadingRefusals
@@ -188,26 +180,26 @@ pub record Demand1 : Type 0 where
       → ((total_says bytes table figures).number ≤ 17) × ((total_says bytes table figures).number ≡ 12 → ⊥)
   -- rule 12.8: beside number and place there is 0 for what the function would have counted, and no header; refusal 12 comes with the allowance
   -- and B
-  pub header_refusal : (bytes : List ℕ) (refusal : Refusal) → header_read bytes ≡ HeaderRefused refusal → read_header_says bytes ≡ record { number = number_of refusal; place = place_of refusal; header = [] }
+  pub header_refusal : (bytes : List ℕ) (refusal : Refusal) → header_read bytes ≡ Err refusal → read_header_says bytes ≡ record { number = number_of refusal; place = place_of refusal; header = [] }
   pub reading_refusal : (bytes : List ℕ) (refusal : Refusal)
-      → (reading bytes).verdict ≡ ReaderRefused refusal
+      → (reading bytes).verdict ≡ Err refusal
       → read_says bytes ≡ record { number = number_of refusal; place = place_of refusal; blocks = 0; header = [] }
   pub analysis_refusal : (bytes : List ℕ) (allowance : ℕ) (lent : Buffers) (refusal : Refusal)
-      → (analysed bytes allowance lent).answer ≡ AnalysisRefused refusal
+      → (analysed bytes allowance lent).answer ≡ analysis_refused refusal
       → analyse_says bytes allowance lent ≡ record { number = number_of refusal; place = place_of refusal; passes = 0; blocks = 0 }
   -- 12 is never told as another refusal is: it comes with its values
   pub analysis_refused : (bytes : List ℕ) (allowance : ℕ) (lent : Buffers) (refusal : Refusal)
-      → (analysed bytes allowance lent).answer ≡ AnalysisRefused refusal
+      → (analysed bytes allowance lent).answer ≡ analysis_refused refusal
       → number_of refusal ≤ 11
   pub analysis_unsettled : (bytes : List ℕ) (chart : Chart) (allowance : ℕ) (lent : Buffers)
       → read_chart bytes ≡ accepted chart
       → (analyse_says bytes allowance lent).number ≡ 12
       → analyse_says bytes allowance lent ≡ record { number = 12; place = 0; passes = allowance; blocks = block_count chart }
   pub checker_refusal : (bytes : List ℕ) (table : Lent) (refusal : Refusal)
-      → checked bytes table ≡ CheckerRefused refusal
+      → checked bytes table ≡ Err refusal
       → check_says bytes table ≡ record { number = number_of refusal; place = place_of refusal; yes = 0 }
   pub totals_refusal : (bytes : List ℕ) (table : Lent) (figures : Figures) (refusal : Refusal)
-      → totals bytes table figures ≡ TotalsRefused refusal
+      → totals bytes table figures ≡ Err refusal
       → total_says bytes table figures ≡ record { number = number_of refusal; place = place_of refusal; low = 0; high = 0 }
   -- no buffer grows or shrinks
   pub same_lengths : (bytes : List ℕ) (allowance : ℕ) (lent : Buffers) → SameLengths lent (analysed bytes allowance lent).buffers

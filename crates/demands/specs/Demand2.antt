@@ -30,8 +30,7 @@ use Rattle.cache.specs.Plain.{Cache, Formed, empty_cache}
 use Rattle.cache.specs.Published.{AsPublished}
 use Rattle.machine.specs.Machine.{ways_of, key_of, plain_machine}
 use Rattle.tables.specs.Lent.{Lent, table_of, TablePasses}
-use Rattle.analysis.specs.declared.Analysed.TheVariants.{Settled}
-use Rattle.analysis.specs.Analysis.{Buffers, buffers_short, filled_by, table_in, analysed}
+use Rattle.analysis.specs.Analysis.{Buffers, buffers_short, filled_by, table_in, analysed, settled_after}
 use Rattle.checker.specs.Checker.{check_says}
 use Rattle.report.specs.Report.{taken, zero_buffers}
 use Rattle.report.specs.Ending.{refuses}
@@ -133,27 +132,27 @@ pub record Demand2 : Type 0 where
   -- an analysis that settles leaves the tightest table (rule 7.8), which the checker passes
   pub settled : (bytes : List ℕ) (chart : Chart) (allowance passes blocks : ℕ) (lent : Buffers)
       → read_chart bytes ≡ accepted chart
-      → (analysed bytes allowance lent).answer ≡ Settled passes blocks
+      → (analysed bytes allowance lent).answer ≡ settled_after passes blocks
       → Settles chart passes blocks lent (analysed bytes allowance lent).buffers
   pub settled_yes : (bytes : List ℕ) (allowance passes blocks : ℕ) (lent : Buffers)
-      → (analysed bytes allowance lent).answer ≡ Settled passes blocks
+      → (analysed bytes allowance lent).answer ≡ settled_after passes blocks
       → CheckerYes bytes (table_in (analysed bytes allowance lent).buffers)
   -- rule 9.6: an accepted chart with room settles within every allowance that is no less than its number
   pub enough : (bytes : List ℕ) (chart : Chart) (allowance : ℕ) (lent : Buffers)
       → read_chart bytes ≡ accepted chart
       → buffers_short (plan_of chart) lent ≡ false
       → most_passes chart ≤ allowance
-      → (passes : ℕ) × ((analysed bytes allowance lent).answer ≡ Settled passes (block_count chart))
+      → (passes : ℕ) × ((analysed bytes allowance lent).answer ≡ settled_after passes (block_count chart))
   -- so the analysis settles with the program's allowance (rule 13.2) and buffers, which have room for the largest chart
   pub program_settles : (input : List ℕ) (chart : Chart)
       → read_chart (taken input) ≡ accepted chart
-      → (passes : ℕ) × ((analysed (taken input) all_passes (zero_buffers most_nodes most_blocks)).answer ≡ Settled passes (block_count chart))
+      → (passes : ℕ) × ((analysed (taken input) all_passes (zero_buffers most_nodes most_blocks)).answer ≡ settled_after passes (block_count chart))
   -- so the program refuses no accepted chart (rules 13.1 to 13.3)
   pub program_accepts : (input : List ℕ) (chart : Chart) → read_chart (taken input) ≡ accepted chart → refuses input ≡ false
   -- two allowances within which it settles agree in everything
   pub agree : (bytes : List ℕ) (one other passes passes' blocks blocks' : ℕ) (lent : Buffers)
-      → (analysed bytes one lent).answer ≡ Settled passes blocks
-      → (analysed bytes other lent).answer ≡ Settled passes' blocks'
+      → (analysed bytes one lent).answer ≡ settled_after passes blocks
+      → (analysed bytes other lent).answer ≡ settled_after passes' blocks'
       → analysed bytes one lent ≡ analysed bytes other lent
   -- rules 16.3 and 16.4: touch by touch, what is held of a block after a node is that after all its touches
   pub kept_touch_by_touch : (chart : Chart) (column n : ℕ)

@@ -4,7 +4,7 @@
 -- And of touches that are called kept: of one block, all but at most one on the whole walk hit.
 -- The plain cache is that of rules 4.1 to 4.7, walk, visits and machine those of rules 5.1 to 5.3, what ages say is rule 6.1, what is called goes by
 -- rules 8.1 and 8.2 and, of sets, by rules 16.1 to 16.8, the totals by rules 10.1 to 10.4. Proved as `demand3` in proofs/Demand3.antt.
-use Rattle.std.specs.Prelude.{ℕ, ◌+◌, ◌*◌, ◌≤◌, ◌<◌, ◌≡◌, Bool, not, ◌&&◌, List, [], ◌∷◌, eqb, get_or, drop}
+use Rattle.std.specs.Prelude.{ℕ, ◌+◌, ◌*◌, ◌≤◌, ◌<◌, ◌≡◌, Bool, not, ◌&&◌, List, [], ◌∷◌, eqb, get_or, drop, Result}
 use Rattle.chart.specs.Record.{Touch}
 use Rattle.chart.specs.Chart.{Chart, accepted, read_chart, arrows, touches}
 use Rattle.flow.specs.Flow.{cell_at}
@@ -16,12 +16,12 @@ use Rattle.machine.specs.Machine.{plain_machine, Contents, AgesTrue, cost_of}
 use Rattle.machine.specs.Keeping.{touch_whole, kept_miss}
 use Rattle.costs.specs.Costs.{Figures, classes_at}
 use Rattle.tables.specs.Lent.{Lent, ages_at, table_of}
-use Rattle.analysis.specs.declared.Analysed.TheVariants.{Settled}
-use Rattle.analysis.specs.Analysis.{Buffers, analysed}
-use Rattle.totals.specs.declared.Totals.{Totals}
+use Rattle.analysis.specs.Analysis.{Buffers, analysed, settled_after}
 use Rattle.totals.specs.Totals.{totals, totals_say}
 use Rattle.demands.specs.Demand1.{FiguresFit}
 use Rattle.demands.specs.Demand2.{CheckerYes}
+use Rattle.totals.specs.declared.Totals.{Totals}
+use Rattle.refusals.specs.declared.Refusal.{Refusal}
 
 -- ---- what is given
 
@@ -105,13 +105,13 @@ abbrev pub AtEachNode : (chart : Chart) → (ℕ → Contents chart → Type 0) 
 AtEachNode chart P ts contents = AtNodes (plain_machine chart) P (touches chart) chart.header.entry ts contents
 
 -- An answer is no refusal, and the cost that the machine counts lies between the two totals that it returns.
-pub record CostBetween (chart : Chart) (figures : Figures) (ts : List ℕ) (contents : Contents chart) (answer : Totals) : Type 0 where
+pub record CostBetween (chart : Chart) (figures : Figures) (ts : List ℕ) (contents : Contents chart) (answer : Result Totals Refusal) : Type 0 where
   pub given : (totals_say answer).number ≡ 0
   pub no_less : (totals_say answer).low ≤ cost_of chart figures.costs.hit figures.costs.miss ts contents
   pub no-more : cost_of chart figures.costs.hit figures.costs.miss ts contents ≤ (totals_say answer).high
 
 -- An answer is no refusal, and both its totals are the cost that the machine counts.
-pub record CostExactly (chart : Chart) (figures : Figures) (ts : List ℕ) (contents : Contents chart) (answer : Totals) : Type 0 where
+pub record CostExactly (chart : Chart) (figures : Figures) (ts : List ℕ) (contents : Contents chart) (answer : Result Totals Refusal) : Type 0 where
   pub given : (totals_say answer).number ≡ 0
   pub low : (totals_say answer).low ≡ cost_of chart figures.costs.hit figures.costs.miss ts contents
   pub high : (totals_say answer).high ≡ cost_of chart figures.costs.hit figures.costs.miss ts contents
@@ -129,7 +129,7 @@ pub record Demand3 : Type 0 where
   -- so, too, the classes that the analysis has written
   pub written_true : (bytes : List ℕ) (chart : Chart) (allowance passes blocks : ℕ) (lent : Buffers) (contents : Contents chart) (ts : List ℕ)
       → OnWalk bytes chart contents ts
-      → (analysed bytes allowance lent).answer ≡ Settled passes blocks
+      → (analysed bytes allowance lent).answer ≡ settled_after passes blocks
       → AtEachNode chart (ClassTrue chart (analysed bytes allowance lent).buffers.classes) ts contents
   -- whatever table the checker passes: of the touches of one block called kept, all but at most one on the whole walk hit
   pub kept_once : (bytes : List ℕ) (chart : Chart) (table : Lent) (contents : Contents chart) (ts : List ℕ) (block : ℕ)
@@ -139,10 +139,10 @@ pub record Demand3 : Type 0 where
   -- so, too, by the classes that the analysis has written
   pub written_once : (bytes : List ℕ) (chart : Chart) (allowance passes blocks : ℕ) (lent : Buffers) (contents : Contents chart) (ts : List ℕ) (block : ℕ)
       → OnWalk bytes chart contents ts
-      → (analysed bytes allowance lent).answer ≡ Settled passes blocks
+      → (analysed bytes allowance lent).answer ≡ settled_after passes blocks
       → read_misses chart (analysed bytes allowance lent).buffers.classes block ts contents ≤ 1
   -- whatever table the checker passes, the totals are given, and the cost lies between them
-  pub cost_between : (bytes : List ℕ) (chart : Chart) (table : Lent) (figures : Figures) (contents : Contents chart) (ts : List ℕ) (answer : Totals)
+  pub cost_between : (bytes : List ℕ) (chart : Chart) (table : Lent) (figures : Figures) (contents : Contents chart) (ts : List ℕ) (answer : Result Totals Refusal)
       → OnWalk bytes chart contents ts
       → CheckerYes bytes table
       → FiguresFit chart figures
@@ -150,14 +150,14 @@ pub record Demand3 : Type 0 where
       → answer ≡ totals bytes table figures
       → CostBetween chart figures ts contents answer
   -- and wherever totals are given, the cost lies between them, with nothing else to ask of the table or the figures
-  pub given_between : (bytes : List ℕ) (chart : Chart) (table : Lent) (figures : Figures) (contents : Contents chart) (ts : List ℕ) (answer : Totals)
+  pub given_between : (bytes : List ℕ) (chart : Chart) (table : Lent) (figures : Figures) (contents : Contents chart) (ts : List ℕ) (answer : Result Totals Refusal)
       → OnWalk bytes chart contents ts
       → VisitsWithin chart figures ts
       → answer ≡ totals bytes table figures
       → (totals_say answer).number ≡ 0
       → CostBetween chart figures ts contents answer
   -- (beyond the demand: where everything on the walk is called a hit or a miss and the visits are known, both totals are the cost)
-  pub cost_exactly : (bytes : List ℕ) (chart : Chart) (table : Lent) (figures : Figures) (contents : Contents chart) (ts : List ℕ) (answer : Totals)
+  pub cost_exactly : (bytes : List ℕ) (chart : Chart) (table : Lent) (figures : Figures) (contents : Contents chart) (ts : List ℕ) (answer : Result Totals Refusal)
       → OnWalk bytes chart contents ts
       → CheckerYes bytes table
       → FiguresFit chart figures

@@ -13,8 +13,7 @@ use Rattle.machine.specs.Keeping.{touch_whole}
 use Rattle.costs.specs.Costs.{classes_at}
 use Rattle.costs.specs.Laws.{RightAt, ToldAt}
 use Rattle.tables.specs.Lent.{Lent, ages_at, table_of}
-use Rattle.analysis.specs.declared.Analysed.TheVariants.{Settled}
-use Rattle.analysis.specs.Analysis.{Buffers, buffers_short, filled_by, analysed}
+use Rattle.analysis.specs.Analysis.{Buffers, buffers_short, filled_by, analysed, settled_after}
 use Rattle.demands.specs.Demand3.{whole_in}
 
 -- An analysis that settled: with room, at this table, which it leaves.
@@ -23,7 +22,7 @@ pub record Done (bytes : List ℕ) (chart : Chart) (allowance : ℕ) (lent : Buf
   pub table : List (Cell Ages)
   pub outcome : settle (ages_flow chart) allowance ≡ settled passes table
   pub count_is : blocks ≡ block_count chart
-  pub left : analysed bytes allowance lent ≡ record { answer = Settled passes (block_count chart); buffers = filled_by (plan_of chart) chart.blocks table lent }
+  pub left : analysed bytes allowance lent ≡ record { answer = settled_after passes (block_count chart); buffers = filled_by (plan_of chart) chart.blocks table lent }
 
 -- The class of a touch of a block.
 abbrev pub touch_class : Chart → Touch → Whole → ℕ

@@ -1,7 +1,7 @@
 -- What is claimed of the definitions: soundings on charts that are written out, proved by computing; the program's numbers; and statements of
 -- walks, starts, reports, classes and costs. `sounded` in proofs/Soundings.antt proves it. Nothing here is a rule of the tool: it is what the rules
 -- come to, so that a definition that says something else is found out.
-use Rattle.std.specs.Prelude.{◌≡◌, ℕ, ◌*◌, ◌≤◌, ◌<◌, Bool, true, false, cond, List, [], ◌∷◌, ◌++◌, map, length, get_or}
+use Rattle.std.specs.Prelude.{◌≡◌, ℕ, ◌*◌, ◌≤◌, ◌<◌, Bool, true, false, cond, List, [], ◌∷◌, ◌++◌, map, length, get_or, Ok}
 use Rattle.lists.specs.Soundings.{Hold}
 use Rattle.cache.specs.Plain.{empty_cache}
 use Rattle.lists.specs.Lists.{Among}
@@ -9,10 +9,8 @@ use Rattle.flow.specs.Walk.{Walk, last_of}
 use Rattle.facts.specs.declared.Side.TheVariants.{High}
 use Rattle.facts.specs.Whole.{InWholes}
 use Rattle.analysis.specs.Analysis.{table_in}
-use Rattle.checker.specs.declared.Checked.TheVariants.{Yes}
 use Rattle.checker.specs.Checker.{checked}
-use Rattle.totals.specs.declared.Totals.TheVariants.{Between}
-use Rattle.totals.specs.Totals.{totals}
+use Rattle.totals.specs.Totals.{totals, totals_between}
 use Rattle.chart.specs.Geometry.{longest_chart, passes_for, all_passes}
 use Rattle.chart.specs.Sounded.{chart_fields, node_counts, twin_arrows}
 use Rattle.chart.specs.Sizes.{sized_touches, sizes_refused, crowded}
@@ -21,9 +19,7 @@ use Rattle.fields.specs.Sounded.{nodes_read, blocks_listed, FieldsSounded}
 use Rattle.writer.specs.Sounded.{loop_written, fields_packed, headings_refused, nodes_refused, ordered, crowds, WriterSounded}
 use Rattle.clock.specs.Laws.{ExactSheet}
 use Rattle.clock.specs.Sounded.{number, zero, eighth, two, two_and_half, sheet, latest, figures_sounded, times_sounded, refusals_sounded, verdicts_sounded, ClockSounded}
-use Rattle.deadline.specs.declared.Judged.TheVariants.{Met}
-use Rattle.deadline.specs.Deadline.{judged}
-use Rattle.certificate.specs.declared.Bounded.TheVariants.{At}
+use Rattle.deadline.specs.Deadline.{judged, judged_with}
 use Rattle.certificate.specs.Bound.{bounded}
 use Rattle.report.specs.Report.{report}
 use Rattle.report.specs.Ending.{refuses, ending_of}
@@ -67,7 +63,7 @@ pub record Sounded : Type 0 where
   pub ten_turns_walk : OnWalk loop_chart loop empty_cache ten_turns
   pub ten_turns_within : VisitsWithin loop loop_figures ten_turns
   -- and with 0.125 microseconds a cycle, no overhead and a latest time of 2.5 what is said of deadlines speaks of them, without rounding too
-  pub ten_turns_judged : JudgedWalk loop_chart loop (table_in (after loop_chart)) loop_figures empty_cache ten_turns (sheet eighth zero) (latest two_and_half) (Met (number quarter) (number two_and_half))
+  pub ten_turns_judged : JudgedWalk loop_chart loop (table_in (after loop_chart)) loop_figures empty_cache ten_turns (sheet eighth zero) (latest two_and_half) (judged_with true (number quarter) (number two_and_half))
   pub eighth_exact : ExactSheet (sheet eighth zero) 3
   -- not every node of them is below 2: `AtEachNode` speaks of the last one, node 2, too
   pub last_node : AtEachNode loop (λ n cache. n < 2) ten_turns empty_cache → ⊥
@@ -80,9 +76,9 @@ pub record Sounded : Type 0 where
   pub strangers_begin : (plain_machine unknown_start).Begins strangers
   -- the loop chart's table passes, its totals are 2 and 20, and they meet a deadline of 4.5 at 0.125 a cycle and an overhead of 2: what the program
   -- `soundings` runs
-  pub loop_checked : checked loop_chart (table_in (after loop_chart)) ≡ Yes
-  pub loop-totals : totals loop_chart (table_in (after loop_chart)) loop_figures ≡ Between 2 20
-  pub loop_judged : judged loop_chart (table_in (after loop_chart)) loop_figures (sheet eighth two) (latest most) ≡ Met (number least) (number most)
+  pub loop_checked : checked loop_chart (table_in (after loop_chart)) ≡ Ok true
+  pub loop-totals : totals loop_chart (table_in (after loop_chart)) loop_figures ≡ totals_between 2 20
+  pub loop_judged : judged loop_chart (table_in (after loop_chart)) loop_figures (sheet eighth two) (latest most) ≡ judged_with true (number least) (number most)
   -- the loop's report, whole, and the numbers that the program goes by (rules 1.4, 9.6, 13.1 and 13.2)
   pub sample_report : report loop_chart ≡ loop_report
   pub longest-chart : longest_chart ≡ 8200
@@ -121,20 +117,20 @@ pub record Sounded : Type 0 where
   pub figures_as_facts_hold : Hold figures_as_facts
   pub not_bounded_hold : Hold not_bounded
   -- the branch's floors and ceilings as facts come to its total, too
-  pub branch_as_facts : bounded branch branch_table (visit_question (plan_of (chart_in branch)) branch_table branch_figures High) ≡ At 78
+  pub branch_as_facts : bounded branch branch_table (visit_question (plan_of (chart_in branch)) branch_table branch_figures High) ≡ Ok 78
   -- the walk by both sides in turn keeps the fact of the sides: what is said of certificates speaks of it, and its cost is the bound
   pub both_sides_walk : OnWalk branch (chart_in branch) empty_cache branch_walk
   pub both_sides_keep : WalkKeeps (chart_in branch) ten_sides branch_walk
-  pub both_sides_bounded : bounded branch branch_table ten_sides ≡ At 68
+  pub both_sides_bounded : bounded branch branch_table ten_sides ≡ Ok 68
   pub both_sides_paid : cost_in (chart_in branch) ten_sides branch_walk empty_cache ≡ 68
   -- and so it does of the longest walk of a loop within a loop, whose facts have coefficients below -1, and of the shortest one, on the low side
   pub longest_walk : OnWalk nested (chart_in nested) empty_cache longest
   pub longest_keeps : WalkKeeps (chart_in nested) four_rounds longest
-  pub longest_bounded : bounded nested nested_table four_rounds ≡ At 133
+  pub longest_bounded : bounded nested nested_table four_rounds ≡ Ok 133
   pub longest_paid : cost_in (chart_in nested) four_rounds longest empty_cache ≡ 133
   pub shortest_walk : OnWalk nested (chart_in nested) empty_cache shortest
   pub shortest_keeps : WalkKeeps (chart_in nested) one_round shortest
-  pub shortest_bounded : bounded nested nested_table one_round ≡ At 31
+  pub shortest_bounded : bounded nested nested_table one_round ≡ Ok 31
   pub shortest_paid : cost_in (chart_in nested) one_round shortest empty_cache ≡ 31
   -- what analysis and plain machine share
   pub shared_hold : Hold shared_soundings

@@ -1,4 +1,5 @@
 -- Two lists in which the columns, the head and the nodes of a chart were stored hold the chart's plan.
+use Rattle.std.specs.Prelude.{None, Option, Some}
 use Prim.Native.Nat.{ℕ, ◌+◌, ◌*◌, ◌≤◌, ◌<◌}
 use mathlib.Core.Bool.{Bool, true, false, cond, not}
 use mathlib.Core.List.{List, [], ◌∷◌, map}
@@ -22,8 +23,6 @@ use Rattle.chart.specs.declared.headers.Header.{Header}
 use Rattle.chart.specs.Header.{start_code}
 use Rattle.chart.specs.declared.headers.Start.{Start}
 use Rattle.chart.specs.declared.headers.Start.TheVariants.{Unknown, Empty}
-use Rattle.chart.specs.declared.records.Record.{Record}
-use Rattle.chart.specs.declared.records.Record.TheVariants as what
 use Rattle.chart.specs.Geometry.{most_nodes, most_blocks, block_of, set_of}
 use Rattle.chart.specs.Record.{Touch, both_touched, touches_of}
 use Rattle.chart.specs.Chart.{Chart, accepted, refused, read_chart, chart_in, block_count, node_at}
@@ -38,6 +37,7 @@ use Rattle.plan.specs.Listed.{nodes_in, blocks_in, node_place, node_in, touches_
 use Rattle.drawing.specs.Columns.{alike, ColumnsDrawn}
 use Rattle.drawing.specs.Nodes.{head_numbers, ColumnsNarrow, planned_by, node_by, AllNarrow, NodesDrawn}
 use Rattle.drawing.specs.Drawing.{Draws}
+use Rattle.chart.specs.declared.records.Reference.{Reference}
 
 -- What is stored, place by place, of a header and an array of so many blocks.
 record Stored (bytes array columns plan : List ℕ) (header : Header) (count : ℕ) : Type 0 where
@@ -78,20 +78,20 @@ module _ (chart : Chart) where
           ne_eqb _ _ (λ q. eqb-false lower upper e (sym low.1 ∙ ap (λ (k : ℕ). get_or chart.blocks k 0) q ∙ high.1))
 
   module _ (geometry : Geometry) where
-    abbrev AllListed : Record → Type 0
+    abbrev AllListed : Option Reference → Type 0
     AllListed what = (touch : Touch) → Among touch (touches_of geometry what) → Listed touch.block
 
-    narrow-columns : block_count chart ≤ most_blocks → (what : Record) → AllListed what → ColumnsNarrow (planned_by geometry chart.blocks what)
+    narrow-columns : block_count chart ≤ most_blocks → (what : Option Reference) → AllListed what → ColumnsNarrow (planned_by geometry chart.blocks what)
     unfolding touches_of
-    narrow-columns few what.Step each = tt
-    narrow-columns few (what.Reference reference) each =
+    narrow-columns few None each = tt
+    narrow-columns few (Some reference) each =
         let both = both-listed reference.write (block_of geometry reference.address) (block_of geometry reference.last) each in
         (omega (arith, both.0.0), omega (arith, both.1.0))
 
-    touches_are : (what : Record) → AllListed what → touches_by (planned_by geometry chart.blocks what) ≡ map (column_touch chart) (touches_of geometry what)
+    touches_are : (what : Option Reference) → AllListed what → touches_by (planned_by geometry chart.blocks what) ≡ map (column_touch chart) (touches_of geometry what)
     unfolding touches_of
-    touches_are what.Step each = refl
-    touches_are (what.Reference reference) each =
+    touches_are None each = refl
+    touches_are (Some reference) each =
         let lower = block_of geometry reference.address in
         let upper = block_of geometry reference.last in
         let both = both-listed reference.write lower upper each in

@@ -1,4 +1,5 @@
 -- Stores into a plan's lists: a turn of the loop over columns, the numbers of a node, and a turn of the loop over nodes.
+use Rattle.std.specs.Prelude.{None, Option, Some}
 use Prim.Native.Nat.{ℕ, zero, suc, ◌+◌, ◌*◌, ◌/◌, ◌%◌, ◌≤◌, ◌<◌}
 use mathlib.Core.Bool.{Bool, true, false, cond}
 use mathlib.Core.List.{List}
@@ -13,12 +14,11 @@ use Rattle.chart.specs.declared.shape.Geometry.{Geometry}
 use Rattle.chart.specs.declared.records.Node.{Node}
 use Rattle.chart.specs.Geometry.{most_blocks}
 use Rattle.chart.specs.Chart.{node_at}
-use Rattle.plan.specs.declared.PlannedRecord.{PlannedRecord}
-use Rattle.plan.specs.declared.PlannedRecord.TheVariants.{Step, Reference}
-use Rattle.plan.specs.declared.PlannedNode.{PlannedNode}
 use Rattle.plan.specs.Listed.{node_place, planned_of, node_from, node_in}
 use Rattle.drawing.specs.Columns.{first_alike, ColumnsDrawn}
 use Rattle.drawing.specs.Nodes.{kind_number, columns_number, deed_number, node_numbers, ColumnsNarrow, Narrow, planned_by, node_by, NodesDrawn}
+use Rattle.plan.specs.declared.ColumnTouches.{ColumnTouches}
+use Rattle.chart.specs.declared.records.Reference.{Reference}
 
 -- ---- columns
 
@@ -67,20 +67,20 @@ patch-behind l base (suc n) f k h =
     get_or-set_other (patch l base n f) (base + n) k (f n) 0 (λ e. omega arith) ∙ patch-behind l base n f k h
 
 -- A record, read back from its numbers.
-planned-back : (planned : PlannedRecord) → ColumnsNarrow planned → planned_of (kind_number planned) (columns_number planned % most_blocks) (columns_number planned / most_blocks) ≡ planned
-planned-back Step narrow = refl
-planned-back (Reference reference) narrow =
-    let lower : columns_number (Reference reference) % most_blocks ≡ reference.lower = omega (arith, narrow.0) in
-    let upper : columns_number (Reference reference) / most_blocks ≡ reference.upper = omega (arith, narrow.0) in
+planned-back : (planned : Option ColumnTouches) → ColumnsNarrow planned → planned_of (kind_number planned) (columns_number planned % most_blocks) (columns_number planned / most_blocks) ≡ planned
+planned-back None narrow = refl
+planned-back (Some reference) narrow =
+    let lower : columns_number (Some reference) % most_blocks ≡ reference.lower = omega (arith, narrow.0) in
+    let upper : columns_number (Some reference) / most_blocks ≡ reference.upper = omega (arith, narrow.0) in
     (λ i. planned_of (cond reference.write 2 1) (lower i) (upper i)) ∙ go reference.write
   where
-    go : (write : Bool) → planned_of (cond write 2 1) reference.lower reference.upper ≡ Reference (record { lower = reference.lower; upper = reference.upper; write = write })
+    go : (write : Bool) → planned_of (cond write 2 1) reference.lower reference.upper ≡ Some (record { lower = reference.lower; upper = reference.upper; write = write })
     go true = refl
     go false = refl
 
-kind-few : (planned : PlannedRecord) → kind_number planned < 4
-kind-few Step = omega arith
-kind-few (Reference reference) = go reference.write
+kind-few : (planned : Option ColumnTouches) → kind_number planned < 4
+kind-few None = omega arith
+kind-few (Some reference) = go reference.write
   where
     go : (write : Bool) → cond write 2 1 < 4
     go true = omega arith
@@ -91,7 +91,7 @@ deed-back : (kind outs columns : ℕ) → kind < 4 → outs < 4
     → (deed_number kind outs columns % 4 ≡ kind) × ((deed_number kind outs columns / 4 % 4 ≡ outs) × (deed_number kind outs columns / 16 ≡ columns))
 deed-back kind outs columns k o = (omega arith, (omega arith, omega arith))
 
-module _ (n : ℕ) (node : PlannedNode) (plan after : List ℕ) (narrow : Narrow node) (room : node_place n + 3 ≤ length plan) (put : after ≡ patch plan (node_place n) 3 (λ k. get_or (node_numbers node) k 0)) where
+module _ (n : ℕ) (node : Node ColumnTouches) (plan after : List ℕ) (narrow : Narrow node) (room : node_place n + 3 ≤ length plan) (put : after ≡ patch plan (node_place n) 3 (λ k. get_or (node_numbers node) k 0)) where
   number : (k : ℕ) → k < 3 → get_or after (node_place n + k) 0 ≡ get_or (node_numbers node) k 0
   number k h = ap (λ (l : List ℕ). get_or l (node_place n + k) 0) put ∙ patch-in plan (node_place n) 3 (λ j. get_or (node_numbers node) j 0) k room h
 
@@ -117,14 +117,14 @@ module _ (n : ℕ) (node : PlannedNode) (plan after : List ℕ) (narrow : Narrow
   node_stays m h =
       λ i. node_from (before-stays (node_place m) (omega arith) i) (before-stays (node_place m + 1) (omega arith) i) (before-stays (node_place m + 2) (omega arith) i)
 
-  pub nodes-turn : (each : ℕ → PlannedNode) (start : List ℕ) → NodesDrawn n each start plan → node ≡ each n → NodesDrawn (n + 1) each start after
+  pub nodes-turn : (each : ℕ → Node ColumnTouches) (start : List ℕ) → NodesDrawn n each start plan → node ≡ each n → NodesDrawn (n + 1) each start after
   nodes-turn each start drawn is =
       record {
         head_stays = λ k h. before-stays k (omega arith) ∙ drawn.head_stays k h;
         nodes = below_more (λ m. node_in after m ≡ each m) n (λ m h. node_stays m h ∙ drawn.nodes m h) (node-back ∙ is);
       }
 
-pub nodes-none : (each : ℕ → PlannedNode) (plan : List ℕ) → NodesDrawn 0 each plan plan
+pub nodes-none : (each : ℕ → Node ColumnTouches) (plan : List ℕ) → NodesDrawn 0 each plan plan
 nodes-none each plan = record { head_stays = λ k h. refl; nodes = λ n h. absurd (omega arith) }
 
 pub columns-none : (sets : List ℕ) (limit : ℕ) (columns : List ℕ) → ColumnsDrawn sets limit 0 columns
@@ -138,7 +138,7 @@ columns-none sets limit columns =
 -- ---- what a chart's node does
 
 -- A chart's node as the functions work it out: with its record as planned, and the arrows as they are.
-module _ (geometry : Geometry) (blocks bytes : List ℕ) (n : ℕ) (node : Node) (planned : PlannedRecord) (read : node ≡ node_at bytes n) (planned-is : planned ≡ planned_by geometry blocks node.what) where
+module _ (geometry : Geometry) (blocks bytes : List ℕ) (n : ℕ) (node : Node Reference) (planned : Option ColumnTouches) (read : node ≡ node_at bytes n) (planned-is : planned ≡ planned_by geometry blocks node.what) where
   pub node-planned : record { what = planned; targets = node.targets } ≡ node_by geometry blocks (node_at bytes n)
   node-planned = (λ i. record { what = planned-is i; targets = node.targets }) ∙ ap (node_by geometry blocks) read
 

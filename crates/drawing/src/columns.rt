@@ -13,8 +13,8 @@ pub(crate) fn sets_of(geometry: Geometry, blocks: &[u32], count: usize) -> [u32;
     ensures { result ≡ patch (replicate most_blocks 0) 0 count (λ k. set_of geometry (get_or blocks.now k 0)) }
 {
     let mut sets = [0u32; Geometry::BLOCKS];
-    for k in 0..count {
-        sets[k] = geometry.set_of(blocks[k]);
+    for (k, set) in sets[..count].iter_mut().enumerate() {
+        *set = geometry.set_of(blocks[k]);
     }
     sets
 }
@@ -25,12 +25,10 @@ fn first_alike(sets: &[u32], column: usize) -> usize
     ensures { result ≡ first_alike sets.now column }
 {
     let set = sets[column];
-    for earlier in 0..column {
-        if sets[earlier] == set {
-            return earlier;
-        }
-    }
-    column
+    sets[..column]
+        .iter()
+        .position(|earlier| *earlier == set)
+        .unwrap_or(column)
 }
 
 // Stores the key and the limits of the first `count` columns, from the set of each. What stands elsewhere is not said.

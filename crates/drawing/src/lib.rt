@@ -16,7 +16,7 @@ ghost use Rattle.drawing.specs.Drawing.{Draws};
 use crate::columns::{put_columns, sets_of};
 use crate::head::put_head;
 use crate::nodes::draw_nodes;
-use chart::{Header, Reading, Verdict};
+use chart::{Header, Reading};
 
 // Leaves the plan of an accepted chart in the two lists, by what the reader has found.
 fn draw_chart(
@@ -46,9 +46,11 @@ pub fn draw(chart: &[u8], columns: &mut [u8], plan: &mut [u16]) -> Reading
 {
     let read = chart::read(chart);
     let verdict = read.verdict;
-    let Verdict::Accepted(header, count) = verdict else {
+    let Ok(accepted) = verdict else {
         return read;
     };
+    let header = accepted.header;
+    let count = accepted.blocks;
     draw_chart(chart, header, &read.blocks, count, columns, plan);
     read
 }

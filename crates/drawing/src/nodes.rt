@@ -12,14 +12,14 @@ ghost use Rattle.plan.specs.Listed.{node_place};
 ghost use Rattle.drawing.specs.Nodes.{kind_number, columns_number, node_numbers, Narrow, ColumnsNarrow, planned_by, node_by, AllNarrow, NodesDrawn};
 
 use blocks::place_in;
-use chart::{Geometry, Header, Record};
-use plan::{ColumnTouches, PlannedNode, PlannedRecord};
+use chart::{Geometry, Header, Node, Reference};
+use plan::ColumnTouches;
 
 // The number of a kind (rule 2.2).
-fn kind_number(planned: PlannedRecord) -> u16
+fn kind_number(planned: Option<ColumnTouches>) -> u16
     ensures { (result ≡ kind_number planned) × (result ≤ 2) }
 {
-    let PlannedRecord::Reference(reference) = planned else {
+    let Some(reference) = planned else {
         return 0;
     };
     let write = reference.write;
@@ -27,18 +27,18 @@ fn kind_number(planned: PlannedRecord) -> u16
 }
 
 // Both columns of a reference in one number, 0 for a bare step.
-fn columns_number(planned: PlannedRecord) -> u16
+fn columns_number(planned: Option<ColumnTouches>) -> u16
     requires { ColumnsNarrow planned }
     ensures { (result ≡ columns_number planned) × (result < 2 ^ 12) }
 {
-    let PlannedRecord::Reference(reference) = planned else {
+    let Some(reference) = planned else {
         return 0;
     };
     reference.lower as u16 + Geometry::BLOCKS as u16 * reference.upper as u16
 }
 
 // Stores the three numbers of node n, and nothing elsewhere.
-fn put_node(plan: &mut [u16], n: usize, node: PlannedNode)
+fn put_node(plan: &mut [u16], n: usize, node: Node<ColumnTouches>)
     requires n_in_bounds { node_place n + 3 ≤ length plan.old }
     requires narrow { Narrow node }
     ensures { plan.new ≡ patch plan.old (node_place n) 3 (λ k. get_or (node_numbers node) k 0) }
@@ -54,27 +54,29 @@ fn put_node(plan: &mut [u16], n: usize, node: PlannedNode)
 }
 
 // What a record does to the columns of the first `count` blocks. The upper block is looked for only where it is another than the lower.
-fn planned_of(geometry: Geometry, blocks: &[u32], count: usize, what: Record) -> PlannedRecord
+fn planned_of(
+    geometry: Geometry,
+    blocks: &[u32],
+    count: usize,
+    what: Option<Reference>,
+) -> Option<ColumnTouches>
     requires count_in_bounds { count ≤ length blocks.now }
     requires ascending { Ascending count blocks.now }
     requires ends { Ends what }
     ensures { result ≡ planned_by geometry (take count blocks.now) what }
 {
-    let Record::Reference(reference) = what else {
-        return PlannedRecord::Step;
+    let Some(reference) = what else {
+        return None;
     };
     let lower_block = geometry.block_of(reference.address);
     let upper_block = geometry.block_of(reference.last as u32);
     let lower = place_in(blocks, count, lower_block);
-    if lower_block == upper_block {
-        return PlannedRecord::Reference(ColumnTouches {
-            lower: lower,
-            upper: lower,
-            write: reference.write,
-        });
-    }
-    let upper = place_in(blocks, count, upper_block);
-    PlannedRecord::Reference(ColumnTouches {
+    let upper = if lower_block == upper_block {
+        lower
+    } else {
+        place_in(blocks, count, upper_block)
+    };
+    Some(ColumnTouches {
         lower: lower,
         upper: upper,
         write: reference.write,
@@ -106,7 +108,7 @@ pub(crate) fn draw_nodes(
         put_node(
             plan,
             n,
-            PlannedNode {
+            Node {
                 what: planned,
                 targets: targets,
             },

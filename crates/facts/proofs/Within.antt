@@ -10,6 +10,9 @@ use borrow.Author.Tests.{leb-true, lt-leb, ne_eqb}
 use lib.Dec.{leb, eqb}
 use lib.IntN.{ℤ, pos}
 use lib.ListN.{get_or, length}
+use mir.Syntax.{w64}
+use mir.Val.{SFits, to_z, of_z}
+use Rattle.std.proofs.lemmas.Int.{to_z-of_z}
 use Rattle.lists.specs.Choice.{every}
 use Rattle.lists.specs.Lists.{sum_of}
 use Rattle.lists.proofs.Choice.{and-true, every-all}
@@ -104,3 +107,10 @@ module _ (multipliers numbers : List ℤ) (stride start : ℕ) (able : Weighable
       let all = multipliers_most multipliers able.multipliers-fit n h in
       let most = weights-most n most_coefficient (λ f. above (get_or multipliers f (pos 0))) (λ f. part (get_or numbers (f * stride + start) (pos 0))) (λ f l. within (f * stride + start) (able.reaches f (omega arith))) in
       omega (arith, most, mul-le-mul_right most_coefficient all)
+
+  -- What comes to it next, of two numbers as a loop has read them, leaves it as small.
+  pub weighed-next : (f weight value : ℕ) → f < length multipliers → SFits w64 (get_or multipliers f (pos 0)) → SFits w64 (get_or numbers (f * stride + start) (pos 0))
+      → weight ≡ above (to_z w64 (of_z w64 (get_or multipliers f (pos 0)))) → value ≡ part (to_z w64 (of_z w64 (get_or numbers (f * stride + start) (pos 0))))
+      → sum_of f terms + weight * value ≤ most_weighed
+  weighed-next f weight value inside fits fits_too one other =
+      rw (one, other, to_z-of_z w64 (get_or multipliers f (pos 0)) fits, to_z-of_z w64 (get_or numbers (f * stride + start) (pos 0)) fits_too) (weighed-most (suc f) (omega arith))

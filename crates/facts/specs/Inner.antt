@@ -2,7 +2,7 @@
 -- Nothing here is a rule of the tool: `Facts` and `Certificate` have the rules, and these unfold to them.
 use Rattle.std.specs.Prelude.{ℕ, ◌+◌, ◌*◌, ◌^◌, ◌≤◌, ◌<◌, Bool, true, List, ◌≡◌, eqb, leb, ltb, ℤ, pos, get_or, length}
 use Rattle.lists.specs.Choice.{every}
-use Rattle.facts.specs.declared.comparing.Parts.{Parts}
+use Rattle.facts.specs.declared.parts.Parts.{Parts}
 use Rattle.facts.specs.Parts.{above, below}
 use Rattle.facts.specs.Facts.{Facts, fact_count}
 use Rattle.facts.specs.Certificate.{most_coefficient, most_potential, all_within, multipliers_fit, weighed}

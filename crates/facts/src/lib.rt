@@ -9,8 +9,8 @@ mod ranges;
 mod ruling;
 mod weighing;
 
-pub use comparing::{Parts, arrow_holds, is_higher, least_of, most_of, start_holds};
-pub use parts::{above_at, below_at};
+pub use comparing::{arrow_holds, is_higher, least_of, most_of, start_holds};
+pub use parts::Parts;
 pub use ranges::in_range;
 pub use ruling::write_openings;
 pub use weighing::weigh;

@@ -1,4 +1,5 @@
 -- What a reader that accepts, or refuses, leaves to say of a node and of the blocks.
+use Rattle.std.specs.Prelude.{Err, None, Ok, Some}
 use Prim.Native.Nat.{ℕ, ◌≤◌, ◌<◌}
 use mathlib.Core.List.{List}
 use mathlib.Core.Path.{◌≡◌, ap, ◌∙◌}
@@ -16,12 +17,10 @@ use Rattle.chart.specs.declared.headers.Header.{Header}
 use Rattle.chart.specs.Geometry.{most_blocks}
 use Rattle.chart.specs.Chart.{Chart, refused, read_chart, records_in, chart_in, block_count}
 use Rattle.chart.specs.Inner.{AcceptedAs}
-use Rattle.fields.specs.declared.NodeRead.TheVariants as node
-use Rattle.fields.specs.declared.BlocksRead.TheVariants as blocks
 use Rattle.fields.specs.Fields.{node_read, refuse_blocks, blocks_read}
 
 module _ (bytes : List ℕ) (refusal : Refusal) (e : read_chart bytes ≡ refused refusal) where
-  pub node-refused : (n : ℕ) → node.Refused refusal ≡ node_read bytes n
+  pub node-refused : (n : ℕ) → Err refusal ≡ node_read bytes n
   unfolding node_read
   node-refused n = rw e
 
@@ -36,11 +35,11 @@ module _ (bytes : List ℕ) (header : Header) (count : ℕ) (array : List ℕ) (
   nodes-same : header.nodes ≡ chart.header.nodes
   nodes-same = ap (λ (h : Header). h.nodes) found.header_is
 
-  pub node-there : (n : ℕ) → n < header.nodes → node.Node (records_in bytes n) ≡ node_read bytes n
+  pub node-there : (n : ℕ) → n < header.nodes → Ok (Some (records_in bytes n)) ≡ node_read bytes n
   unfolding node_read
   node-there n h = rw (found.read, lt-ltb n chart.header.nodes (omega (arith, nodes-same)))
 
-  pub node-none : (n : ℕ) → header.nodes ≤ n → node.NoNode ≡ node_read bytes n
+  pub node-none : (n : ℕ) → header.nodes ≤ n → Ok None ≡ node_read bytes n
   unfolding node_read
   node-none n h = rw (found.read, le-ltb n chart.header.nodes (omega (arith, nodes-same)))
 
@@ -49,11 +48,11 @@ module _ (bytes : List ℕ) (header : Header) (count : ℕ) (array : List ℕ) (
   blocks-short lent h = rw (found.read, lt-ltb (length lent) (block_count chart) (omega (arith, found.count_is)))
 
   pub blocks-listed : (lent after : List ℕ) → count ≤ length lent → after ≡ patch lent 0 count (λ k. get_or array k 0)
-      → record { answer = blocks.Blocks count; blocks = after } ≡ blocks_read bytes lent
+      → record { answer = Ok count; blocks = after } ≡ blocks_read bytes lent
   unfolding blocks_read
   blocks-listed lent after room e =
       rw (found.read, le-ltb (length lent) (block_count chart) (omega (arith, found.count_is)))
-      (λ i. record { answer = blocks.Blocks (found.count_is i); blocks = list i })
+      (λ i. record { answer = Ok (found.count_is i); blocks = list i })
     where
       list : after ≡ written chart.blocks lent
       list =

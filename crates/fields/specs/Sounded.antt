@@ -1,11 +1,11 @@
 -- Soundings of reading one node and of the list of blocks: a chart of two nodes in which no two fields of both nodes are alike, numbers below and
 -- from N on, a chart that is refused, and buffers with too little room, just enough and more. Nothing here is a rule of the tool: these are
 -- examples of rules 15.1 and 15.2, and `FieldsSounded` holds the definitions to them.
-use Rattle.std.specs.Prelude.{ℕ, List, [], ◌∷◌, ◌++◌, ◌≡◌, replicate, set}
+use Rattle.std.specs.Prelude.{ℕ, List, [], ◌∷◌, ◌++◌, ◌≡◌, replicate, set, Result}
 use Rattle.lists.specs.Slices.{MutSlice}
 use Rattle.lists.specs.Soundings.{Sounding, ◌reads◌, Hold}
-use Rattle.fields.specs.declared.BlocksRead.{BlocksRead}
 use Rattle.fields.specs.Fields.{read_node_says, blocks_read, read_blocks_say, exit_blocks}
+use Rattle.refusals.specs.declared.Refusal.{Refusal}
 
 -- Lines of 16 bytes, two nodes. Node 0 writes four bytes from 0x2E on, and leads to 1; node 1 reads 0x1E, and leads to 1 and to 0.
 abbrev pub two_nodes : List ℕ
@@ -60,6 +60,6 @@ blocks_listed =
 
 pub record FieldsSounded : Type 0 where
   -- what is left is the list at exit, whatever is answered
-  pub blocks_left : (blocks : MutSlice) (answer : BlocksRead) → exit_blocks blocks answer ≡ record { answer = answer; blocks = blocks.exit.now }
+  pub blocks_left : (blocks : MutSlice) (answer : Result ℕ Refusal) → exit_blocks blocks answer ≡ record { answer = answer; blocks = blocks.exit.now }
   pub nodes-read : Hold nodes_read
   pub blocks-listed : Hold blocks_listed

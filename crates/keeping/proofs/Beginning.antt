@@ -1,6 +1,7 @@
 -- What a flood begins with: the entry alone, where nothing is marked; and where the nodes that walks reach are marked, those of them that touch one
 -- of the blocks. And what it ends with: marks on the nodes that walks reach.
-use Prim.Native.Nat.{ℕ, ◌+◌, ◌<◌}
+use Rattle.std.specs.Prelude.{None, Option, Some}
+use Prim.Native.Nat.{ℕ, zero, suc, ◌+◌, ◌≤◌, ◌<◌}
 use mathlib.Core.Bool.{Bool, true, false, cond, not, ◌&&◌, true≢false}
 use mathlib.Core.List.{List, [], ◌∷◌}
 use mathlib.Core.Logic.{◌⊎◌, inl, inr}
@@ -8,8 +9,9 @@ use mathlib.Core.Path.{◌≡◌, refl, sym, ap, subst, ◌∙◌}
 use native.Mathlib.Decide.{ℕ_discrete}
 use native.Mathlib.Omega.{arith}
 use borrow.Author.Tests.{eqb-true, eqb-false, eq-eqb}
+use lib.Arith.{lt_of_le-ne}
 use lib.Dec.{eqb}
-use lib.ListN.{get_or, set}
+use lib.ListN.{get_or, set, length, length-set}
 use lib.Pow.{pow_pos}
 use lib.Seq.{get_or-set_same, get_or-set_other}
 use Rattle.lists.specs.Lists.{Among}
@@ -20,8 +22,6 @@ use Rattle.flow.specs.Walk.{Reached}
 use Rattle.flow.specs.Working.{Brought}
 use Rattle.flow.proofs.Reaching.{le-marked}
 use Rattle.ages.specs.Plan.{ColumnTouch, Plan, columns_of, arrows_in}
-use Rattle.plan.specs.declared.PlannedRecord.{PlannedRecord}
-use Rattle.plan.specs.declared.PlannedRecord.TheVariants.{Step, Reference}
 use Rattle.plan.specs.Listed.{nodes_in, blocks_in, entry_in, node_in, touches_by, plan_in, Drawn}
 use Rattle.kept.specs.Since.{Since, untouched}
 use Rattle.kept.specs.Kept.{kept_flow, kept_table}
@@ -32,11 +32,30 @@ use Rattle.keeping.specs.Words.{Grouped, Chosen, touches_chosen, since_in, word_
 use Rattle.keeping.specs.Work.{Roomy, span_to}
 use Rattle.keeping.specs.Flood.{table_in, due_in, Stands, Flooded, AllFlooded}
 use Rattle.keeping.specs.Columns.{group_of}
-use Rattle.keeping.specs.Starting.{MarksReached, Zeros, due_by}
+use Rattle.keeping.specs.Starting.{MarksReached, Zeros, due_by, due_all}
 use Rattle.keeping.proofs.States.{word_none, words-none}
 use Rattle.keeping.proofs.Tables.{cell-bare, cell-held, cells-all, mark-marked, marked-mark}
 use Rattle.keeping.proofs.Visiting.{step-held}
 use Rattle.keeping.proofs.Chosen.{first-chosen}
+use Rattle.plan.specs.declared.ColumnTouches.{ColumnTouches}
+
+-- ---- which nodes are marked as due
+
+module _ (plan chosen marks : List ℕ) (due : List Bool) where
+  due-long : (k : ℕ) → length (due_all plan chosen marks k due) ≡ length due
+  due-long zero = refl
+  due-long (suc k) = length-set (due_all plan chosen marks k due) k (due_by chosen (get_or marks k 0) (node_in plan k).what) ∙ due-long k
+
+  pub due-at : (k n : ℕ) → k ≤ length due → n < k → get_or (due_all plan chosen marks k due) n false ≡ due_by chosen (get_or marks n 0) (node_in plan n).what
+  due-at zero n room h = absurd (omega arith)
+  due-at (suc k) n room h = go (ℕ_discrete n k) (due-at k n (omega arith))
+    where
+      go : Dec (n ≡ k) → (n < k → get_or (due_all plan chosen marks k due) n false ≡ due_by chosen (get_or marks n 0) (node_in plan n).what)
+          → get_or (due_all plan chosen marks (suc k) due) n false ≡ due_by chosen (get_or marks n 0) (node_in plan n).what
+      go (yes e) before = rw e (get_or-set_same (due_all plan chosen marks k due) k (due_by chosen (get_or marks k 0) (node_in plan k).what) false (omega (arith, due-long k)))
+      go (no e) before =
+          get_or-set_other (due_all plan chosen marks k due) k n (due_by chosen (get_or marks k 0) (node_in plan k).what) false e
+          ∙ before (lt_of_le-ne (omega arith) e)
 
 module _ (columns plan : List ℕ) (drawn : Drawn columns plan) (block : ℕ) (inside : block < blocks_in plan) where
   abbrev held : Plan
@@ -51,7 +70,7 @@ module _ (columns plan : List ℕ) (drawn : Drawn columns plan) (block : ℕ) (i
 
   -- ---- the entry alone
 
-  module _ (marks words due : List ℕ) (room : Roomy (nodes_in plan) marks words due) (zeros : Zeros (nodes_in plan) marks words due) where
+  module _ (marks words : List ℕ) (due : List Bool) (room : Roomy (nodes_in plan) marks words due) (zeros : Zeros (nodes_in plan) marks words due) where
     entry_inside : entry_in plan < nodes_in plan
     entry_inside = drawn.sound.entry_inside
 
@@ -61,10 +80,10 @@ module _ (columns plan : List ℕ) (drawn : Drawn columns plan) (block : ℕ) (i
         let one = get_or-set_same marks (entry_in plan) 1 0 (omega (arith, room.marks_room)) in
         omega arith
 
-    entry-due : due_in (set due (entry_in plan) 1) (entry_in plan) ≡ true
+    entry-due : due_in (set due (entry_in plan) true) (entry_in plan) ≡ true
     entry-due =
         let h = entry_inside in
-        ap (λ (d : ℕ). not (eqb d 0)) (get_or-set_same due (entry_in plan) 1 0 (omega (arith, room.due_room)))
+        get_or-set_same due (entry_in plan) true false (omega (arith, room.due_room))
 
     only-entry : (n : ℕ) → n < nodes_in plan → (get_or (set marks (entry_in plan) 1) n 0 ≡ 0 → ⊥) → n ≡ entry_in plan
     only-entry n h marked = go (ℕ_discrete n (entry_in plan))
@@ -73,24 +92,24 @@ module _ (columns plan : List ℕ) (drawn : Drawn columns plan) (block : ℕ) (i
         go (yes e) = e
         go (no e) = absurd (marked (get_or-set_other marks (entry_in plan) n 1 0 e ∙ zeros.marks_zero n h))
 
-    only-due : (n : ℕ) → n < nodes_in plan → due_in (set due (entry_in plan) 1) n ≡ true → n ≡ entry_in plan
+    only-due : (n : ℕ) → n < nodes_in plan → due_in (set due (entry_in plan) true) n ≡ true → n ≡ entry_in plan
     only-due n h d = go (ℕ_discrete n (entry_in plan))
       where
         go : Dec (n ≡ entry_in plan) → n ≡ entry_in plan
         go (yes e) = e
         go (no e) =
-            absurd (true≢false (sym d ∙ ap (λ (v : ℕ). not (eqb v 0)) (get_or-set_other due (entry_in plan) n 1 0 e ∙ zeros.due_zero n h)))
+            absurd (true≢false (sym d ∙ get_or-set_other due (entry_in plan) n true false e ∙ zeros.due_zero n h))
 
-    entry-brought : (n t : ℕ) → n < nodes_in plan → (due_in (set due (entry_in plan) 1) n ≡ true) ⊎ Brought (kept_flow held block) (table_in held block (set marks (entry_in plan) 1) words) n t
+    entry-brought : (n t : ℕ) → n < nodes_in plan → (due_in (set due (entry_in plan) true) n ≡ true) ⊎ Brought (kept_flow held block) (table_in held block (set marks (entry_in plan) 1) words) n t
     entry-brought n t h = go (ℕ_discrete n (entry_in plan))
       where
-        go : Dec (n ≡ entry_in plan) → (due_in (set due (entry_in plan) 1) n ≡ true) ⊎ Brought (kept_flow held block) (table_in held block (set marks (entry_in plan) 1) words) n t
-        go (yes e) = inl (subst (λ (k : ℕ). due_in (set due (entry_in plan) 1) k ≡ true) (sym e) entry-due)
+        go : Dec (n ≡ entry_in plan) → (due_in (set due (entry_in plan) true) n ≡ true) ⊎ Brought (kept_flow held block) (table_in held block (set marks (entry_in plan) 1) words) n t
+        go (yes e) = inl (subst (λ (k : ℕ). due_in (set due (entry_in plan) true) k ≡ true) (sym e) entry-due)
         go (no e) =
             inr
             (rw (cell-bare held block (set marks (entry_in plan) 1) words n h (get_or-set_other marks (entry_in plan) n 1 0 e ∙ zeros.marks_zero n h)) tt)
 
-    pub entry-stands : Stands (plan_in columns plan) block (entry_in plan) (record { marks = set marks (entry_in plan) 1; words = words; due = set due (entry_in plan) 1; span = span_to (entry_in plan + 1) })
+    pub entry-stands : Stands (plan_in columns plan) block (entry_in plan) (record { marks = set marks (entry_in plan) 1; words = words; due = set due (entry_in plan) true; span = span_to (entry_in plan + 1) })
     entry-stands =
         record {
           fits = record { small = λ n h. rw (zeros.words_zero n h) (pow_pos (blocks_in plan)); bare = λ n h e. zeros.words_zero n h };
@@ -113,8 +132,8 @@ module _ (columns plan : List ℕ) (drawn : Drawn columns plan) (block : ℕ) (i
 
   -- ---- the nodes that touch one of the blocks
 
-  module _ (chosen sets : List ℕ) (grouped : Grouped (blocks_in plan) (group_of columns chosen sets)) (own : Chosen chosen block) (marks words due : List ℕ) (reach : MarksReached held marks)
-      (none : (n : ℕ) → n < nodes_in plan → get_or words n 0 ≡ 0) (touching : (n : ℕ) → n < nodes_in plan → get_or due n 0 ≡ due_by chosen (get_or marks n 0) (node_in plan n).what) where
+  module _ (chosen sets : List ℕ) (grouped : Grouped (blocks_in plan) (group_of columns chosen sets)) (own : Chosen chosen block) (marks words : List ℕ) (due : List Bool) (reach : MarksReached held marks)
+      (none : (n : ℕ) → n < nodes_in plan → get_or words n 0 ≡ 0) (touching : (n : ℕ) → n < nodes_in plan → get_or due n false ≡ due_by chosen (get_or marks n 0) (node_in plan n).what) where
     abbrev reached : ℕ → Type 0
     reached n = Reached (arrows_in held) (entry_in plan) n
 
@@ -145,12 +164,12 @@ module _ (columns plan : List ℕ) (drawn : Drawn columns plan) (block : ℕ) (i
     entry-reached = ([], (tt, refl))
 
     -- a record that touches none of the blocks
-    touch-apart : (planned : PlannedRecord) → touches_chosen chosen planned ≡ false → (touch : ColumnTouch) → Among touch (touches_by planned) → Chosen chosen touch.column → ⊥
-    touch-apart Step e touch i q = i
-    touch-apart (Reference reference) e touch (inl is) q =
+    touch-apart : (planned : Option ColumnTouches) → touches_chosen chosen planned ≡ false → (touch : ColumnTouch) → Among touch (touches_by planned) → Chosen chosen touch.column → ⊥
+    touch-apart None e touch i q = i
+    touch-apart (Some reference) e touch (inl is) q =
         let both = or-false (eqb (get_or chosen reference.lower 0) reference.lower) (eqb (get_or chosen reference.upper 0) reference.upper) e in
         eqb-false (get_or chosen reference.lower 0) reference.lower both.0 (subst (λ (t : ColumnTouch). Chosen chosen t.column) is q)
-    touch-apart (Reference reference) e touch (inr i) q = go (eqb reference.lower reference.upper) i
+    touch-apart (Some reference) e touch (inr i) q = go (eqb reference.lower reference.upper) i
       where
         go : (b : Bool) → Among touch (cond b [] (record { column = reference.upper; write = reference.write } ∷ [])) → ⊥
         go true j = j
@@ -172,13 +191,13 @@ module _ (columns plan : List ℕ) (drawn : Drawn columns plan) (block : ℕ) (i
     unfolding due_by
     begins-brought n t h i = go (eqb (get_or marks n 0) 0) refl (touches_chosen chosen (node_in plan n).what) refl
       where
-        due-is : (b s : Bool) → eqb (get_or marks n 0) 0 ≡ b → touches_chosen chosen (node_in plan n).what ≡ s → get_or due n 0 ≡ cond (not b && s) 1 0
+        due-is : (b s : Bool) → eqb (get_or marks n 0) 0 ≡ b → touches_chosen chosen (node_in plan n).what ≡ s → get_or due n false ≡ (not b && s)
         due-is b s e d = touching n h ∙ (rw (e, d))
 
         go : (b : Bool) → eqb (get_or marks n 0) 0 ≡ b → (s : Bool) → touches_chosen chosen (node_in plan n).what ≡ s
             → (due_in due n ≡ true) ⊎ Brought (kept_flow held block) (table_in held block marks words) n t
         go true e s d = inr (rw (cell-bare held block marks words n h (eqb-true (get_or marks n 0) 0 e)) tt)
-        go false e true d = inl (ap (λ (v : ℕ). not (eqb v 0)) (due-is false true e d))
+        go false e true d = inl (due-is false true e d)
         go false e false d =
             let marked = eqb-false (get_or marks n 0) 0 e in
             let there : t < nodes_in plan = drawn.sound.arrows-in n t h i in
@@ -189,8 +208,8 @@ module _ (columns plan : List ℕ) (drawn : Drawn columns plan) (block : ℕ) (i
     begins-marked : (n : ℕ) → n < nodes_in plan → due_in due n ≡ true → get_or marks n 0 ≡ 0 → ⊥
     unfolding due_by
     begins-marked n h d e =
-        let zero-due : get_or due n 0 ≡ 0 = touching n h ∙ (rw (eq-eqb (get_or marks n 0) 0 e)) in
-        true≢false (sym d ∙ ap (λ (v : ℕ). not (eqb v 0)) zero-due)
+        let zero-due : get_or due n false ≡ false = touching n h ∙ (rw (eq-eqb (get_or marks n 0) 0 e)) in
+        true≢false (sym d ∙ zero-due)
 
     pub block-stands : Stands (plan_in columns plan) block 0 (record { marks = marks; words = words; due = due; span = span_to (nodes_in plan) })
     block-stands =

@@ -49,26 +49,26 @@ pub record Sent (plan : Plan) (sound : Sound plan) (block n : ℕ) (x : Since) (
 
 -- ---- which nodes are due after a store
 
-module _ (due : List ℕ) (t : ℕ) where
-  pub due-stored : (v m : ℕ) → (m ≡ t → ⊥) → due_in (set due t v) m ≡ due_in due m
-  due-stored v m e = ap (λ (d : ℕ). not (eqb d 0)) (get_or-set_other due t m v 0 e)
+module _ (due : List Bool) (t : ℕ) where
+  pub due-stored : (v : Bool) (m : ℕ) → (m ≡ t → ⊥) → due_in (set due t v) m ≡ due_in due m
+  due-stored v m e = get_or-set_other due t m v false e
 
-  due-here : t < length due → due_in (set due t 1) t ≡ true
-  due-here h = ap (λ (d : ℕ). not (eqb d 0)) (get_or-set_same due t 1 0 h)
+  due-here : t < length due → due_in (set due t true) t ≡ true
+  due-here h = get_or-set_same due t true false h
 
-  due-still : t < length due → (m : ℕ) → due_in due m ≡ true → due_in (set due t 1) m ≡ true
+  due-still : t < length due → (m : ℕ) → due_in due m ≡ true → due_in (set due t true) m ≡ true
   due-still h m d = go (ℕ_discrete m t)
     where
-      go : Dec (m ≡ t) → due_in (set due t 1) m ≡ true
+      go : Dec (m ≡ t) → due_in (set due t true) m ≡ true
       go (yes e) = rw e (due-here h)
-      go (no e) = due-stored 1 m e ∙ d
+      go (no e) = due-stored true m e ∙ d
 
-  due-new : (m : ℕ) → due_in (set due t 1) m ≡ true → (due_in due m ≡ true) ⊎ (m ≡ t)
+  due-new : (m : ℕ) → due_in (set due t true) m ≡ true → (due_in due m ≡ true) ⊎ (m ≡ t)
   due-new m d = go (ℕ_discrete m t)
     where
       go : Dec (m ≡ t) → (due_in due m ≡ true) ⊎ (m ≡ t)
       go (yes e) = inr e
-      go (no e) = inl (sym (due-stored 1 m e) ∙ d)
+      go (no e) = inl (sym (due-stored true m e) ∙ d)
 
 -- ---- a word is put
 
@@ -83,7 +83,7 @@ module _ (plan : Plan) (sound : Sound plan) (few : plan.blocks ≤ most_blocks) 
       record {
         marks = set work.marks t 1;
         words = set work.words t (bit_or (get_or work.words t 0) out);
-        due = set work.due t 1;
+        due = set work.due t true;
         span = span_with n t work.span;
       }
 
@@ -121,7 +121,7 @@ module _ (plan : Plan) (sound : Sound plan) (few : plan.blocks ≤ most_blocks) 
               record {
                 marks_room = omega (arith, s.room.marks_room, length-set work.marks t 1);
                 words_room = omega (arith, s.room.words_room, length-set work.words t (bit_or (get_or work.words t 0) out));
-                due_room = omega (arith, s.room.due_room, length-set work.due t 1);
+                due_room = omega (arith, s.room.due_room, length-set work.due t true);
               };
           fits = record { small = λ m h. small-after m h (ℕ_discrete m t); bare = λ m h q. bare-after m h (ℕ_discrete m t) q };
           underway = both.0;

@@ -1,5 +1,6 @@
 -- A flooded word, told: the touches of the blocks that share it are told of, and those of other blocks stay as they were. When all blocks that are
 -- wanted are told of, all touches of them are.
+use Rattle.std.specs.Prelude.{None, Option, Some}
 use Prim.Native.Nat.{ℕ, ◌+◌, ◌*◌, ◌/◌, ◌%◌, ◌^◌, ◌≤◌, ◌<◌}
 use mathlib.Core.Bool.{Bool, true, false, cond, true≢false}
 use mathlib.Core.List.{List, [], ◌∷◌}
@@ -18,8 +19,6 @@ use Rattle.chart.specs.Geometry.{most_blocks, most_touches}
 use Rattle.flow.specs.Flow.{Cell, cell_at}
 use Rattle.ages.specs.Plan.{ColumnTouch, Plan, columns_of, touches_in}
 use Rattle.plan.specs.declared.ColumnTouches.{ColumnTouches}
-use Rattle.plan.specs.declared.PlannedRecord.{PlannedRecord}
-use Rattle.plan.specs.declared.PlannedRecord.TheVariants.{Step, Reference}
 use Rattle.plan.specs.Listed.{nodes_in, blocks_in, node_in, touches_by, plan_in, Drawn}
 use Rattle.plan.proofs.Holding.{touches-held, key-held, may-limit-held, record-in, record-fits}
 use Rattle.kept.specs.Since.{Since}
@@ -43,11 +42,11 @@ never-none : (touch : ColumnTouch) (rest : List ColumnTouch) → [] ≡ touch �
 never-none touch rest e = let z : ◌≡◌ {A = ℕ} 0 1 = cc in omega arith
 
 -- The columns of a record that touches something.
-pub first-column : (reference : ColumnTouches) (touch : ColumnTouch) (rest : List ColumnTouch) → touches_by (Reference reference) ≡ touch ∷ rest → reference.lower ≡ touch.column
+pub first-column : (reference : ColumnTouches) (touch : ColumnTouch) (rest : List ColumnTouch) → touches_by (Some reference) ≡ touch ∷ rest → reference.lower ≡ touch.column
 first-column reference touch rest e =
     ap (λ (t : ColumnTouch). t.column) (cons_same (record { column = reference.lower; write = reference.write }) touch (cond (eqb reference.lower reference.upper) [] (record { column = reference.upper; write = reference.write } ∷ [])) rest e).0
 
-pub second-column : (reference : ColumnTouches) (touch other : ColumnTouch) (rest : List ColumnTouch) → touches_by (Reference reference) ≡ touch ∷ other ∷ rest
+pub second-column : (reference : ColumnTouches) (touch other : ColumnTouch) (rest : List ColumnTouch) → touches_by (Some reference) ≡ touch ∷ other ∷ rest
     → (reference.upper ≡ other.column) × (eqb reference.lower reference.upper ≡ false)
 second-column reference touch other rest e =
     go (eqb reference.lower reference.upper) refl
@@ -59,14 +58,14 @@ second-column reference touch other rest e =
     go false q d = (ap (λ (t : ColumnTouch). t.column) (cons_same (record { column = reference.upper; write = reference.write }) other [] rest d).0, q)
 
 -- What is told of a record's touches, by the columns of these.
-first-told : (group : Group) (planned : PlannedRecord) (touch : ColumnTouch) (rest : List ColumnTouch) → touches_by planned ≡ touch ∷ rest → (word old : ℕ) → told_of group planned word 0 old ≡ told_by group word touch.column old
-first-told group Step touch rest e word old = absurd (never-none touch rest e)
-first-told group (Reference reference) touch rest e word old = ap (λ (column : ℕ). told_by group word column old) (first-column reference touch rest e)
+first-told : (group : Group) (planned : Option ColumnTouches) (touch : ColumnTouch) (rest : List ColumnTouch) → touches_by planned ≡ touch ∷ rest → (word old : ℕ) → told_of group planned word 0 old ≡ told_by group word touch.column old
+first-told group None touch rest e word old = absurd (never-none touch rest e)
+first-told group (Some reference) touch rest e word old = ap (λ (column : ℕ). told_by group word column old) (first-column reference touch rest e)
 
-second-told : (group : Group) (planned : PlannedRecord) (touch other : ColumnTouch) (rest : List ColumnTouch) → touches_by planned ≡ touch ∷ other ∷ rest → (word old : ℕ)
+second-told : (group : Group) (planned : Option ColumnTouches) (touch other : ColumnTouch) (rest : List ColumnTouch) → touches_by planned ≡ touch ∷ other ∷ rest → (word old : ℕ)
     → told_of group planned word 1 old ≡ told_by group (word_touched group touch.column word) other.column old
-second-told group Step touch other rest e word old = absurd (never-none touch (other ∷ rest) e)
-second-told group (Reference reference) touch other rest e word old =
+second-told group None touch other rest e word old = absurd (never-none touch (other ∷ rest) e)
+second-told group (Some reference) touch other rest e word old =
     let both = second-column reference touch other rest e in
     rw both.1 (λ i. told_by group (word_touched group (first-column reference touch (other ∷ rest) e i) word) (both.0 i) old)
 
@@ -84,12 +83,12 @@ module _ (columns plan : List ℕ) (drawn : Drawn columns plan) where
       in-its-set : (column : ℕ) → column < blocks_in plan → is_set (set_bits group block) column ≡ eqb ((columns_of held).key column) ((columns_of held).key block)
       in-its-set column h = grouped.sets_are block column inside h ∙ (λ i. eqb (sym (key-held columns plan column h) i) (sym (key-held columns plan block inside) i))
 
-      word-tells : (word : ℕ) → word < 2 ^ blocks_in plan → stays_in group block word ≡ cond (stays_by (plan_in columns plan) block (since_in (columns_of held) block word)) 1 0
+      word-tells : (word : ℕ) → word < 2 ^ blocks_in plan → stays_in group block word ≡ stays_by (plan_in columns plan) block (since_in (columns_of held) block word)
       unfolding stays_in stays_by
       word-tells word small =
           let counted = word-members (columns_of held) block (set_bits group block) word in-its-set small inside in
           let limit = may-limit-held columns plan block inside in
-          λ i. cond (ltb (sym counted i) (sym limit i)) 1 0
+          λ i. ltb (sym counted i) (sym limit i)
 
       module _ (marks words : List ℕ) (flooded : Flooded held block marks words) (n : ℕ) (node : n < nodes_in plan) where
         -- The state on arrival is that of the node's word, also where there is none.
@@ -102,17 +101,17 @@ module _ (columns plan : List ℕ) (drawn : Drawn columns plan) where
                 rw (cell-bare held block marks words n node bare, flooded.fits.bare n node bare) (sym (word_none (columns_of held) block))
             go false e = rw (cell-held held block marks words n node (eqb-false (get_or marks n 0) 0 e))
 
-        first-tells : stays_in group block (get_or words n 0) ≡ cond (stays_by held block (since_at held n block)) 1 0
+        first-tells : stays_in group block (get_or words n 0) ≡ stays_by held block (since_at held n block)
         first-tells =
             word-tells (get_or words n 0) (flooded.fits.small n node)
-            ∙ ap (λ (s : Since). cond (stays_by held block s) 1 0) (sym arrives)
+            ∙ ap (stays_by held block) (sym arrives)
 
         second-tells : (touch : ColumnTouch) → touch.column < blocks_in plan
-            → stays_in group block (word_touched group touch.column (get_or words n 0)) ≡ cond (stays_by held block (after_touch_of held block touch (since_at held n block))) 1 0
+            → stays_in group block (word_touched group touch.column (get_or words n 0)) ≡ stays_by held block (after_touch_of held block touch (since_at held n block))
         second-tells touch there =
             word-tells (word_touched group touch.column (get_or words n 0))
             (touch-small group (columns_of held) (key-held columns plan) grouped block inside own touch.column there (get_or words n 0) (flooded.fits.small n node))
-            ∙ ap (λ (s : Since). cond (stays_by held block s) 1 0)
+            ∙ ap (stays_by held block)
             (word-touch group (columns_of held) (key-held columns plan) grouped block inside own touch.column there (get_or words n 0) ∙ ap (after_touch_of held block touch) (sym arrives))
 
     -- ---- the touches of all nodes
@@ -145,17 +144,20 @@ module _ (columns plan : List ℕ) (drawn : Drawn columns plan) where
         second-by touch other rest e =
             told-second ∙ second-told group (node_in plan n).what touch other rest (sym (touches-held columns plan n node) ∙ e) (get_or words n 0) (get_or stays (most_touches * n + 1) 0)
 
+      abbrev told : Bool → ℕ
+      told kept = cond kept 1 0
+
       -- The blocks that share the words are told of.
       block-told : (marks : List ℕ) → AllFlooded columns plan chosen marks words → (block : ℕ) → block < blocks_in plan → Chosen chosen block → BlockTold held block after
       block-told marks flooded block inside own =
           record {
             first = λ n h touch rest e q.
                 first_by n h touch rest e
-                ∙ (rw (q, eq-eqb (get_or chosen block 0) block own) (first-tells block inside own marks words (flooded block inside own) n h));
+                ∙ (rw (q, eq-eqb (get_or chosen block 0) block own) (ap told (first-tells block inside own marks words (flooded block inside own) n h)));
             second = λ n h touch other rest e q.
                 let there : touch.column < blocks_in plan = drawn.sound.columns_in n h touch (subst (Among touch) (sym e) (inl refl)) in
                 second-by n h touch other rest e
-                ∙ (rw (q, eq-eqb (get_or chosen block 0) block own) (second-tells block inside own marks words (flooded block inside own) n h touch there));
+                ∙ (rw (q, eq-eqb (get_or chosen block 0) block own) (ap told (second-tells block inside own marks words (flooded block inside own) n h touch there)));
           }
 
       -- What was told of another block stays.

@@ -1,13 +1,12 @@
 -- A node taken: the table stays on its way, and where the node was due less is left to do.
 use Prim.Native.Nat.{ℕ, suc, ◌+◌, ◌^◌, ◌≤◌, ◌<◌}
-use mathlib.Core.Bool.{Bool, true, false, not, true≢false}
+use mathlib.Core.Bool.{Bool, true, false, true≢false}
 use mathlib.Core.List.{List, []}
 use mathlib.Core.Logic.{◌⊎◌, inl, inr}
 use mathlib.Core.Path.{◌≡◌, refl, sym, ap, subst, ◌∙◌}
 use native.Mathlib.Numerals.{add-one}
 use native.Mathlib.Omega.{arith}
 use lib.Arith.{lt_of_le-ne}
-use lib.Dec.{eqb}
 use lib.ListN.{get_or, set, length-set}
 use lib.Seq.{get_or-set_same}
 use Rattle.lists.specs.Lists.{Among}
@@ -97,16 +96,16 @@ module _ (columns plan : List ℕ) (drawn : Drawn columns plan) (chosen sets : L
       }
 
   module _ (n : ℕ) (node : n < nodes_in plan) (work : Work) (room : Roomy (nodes_in plan) work.marks work.words work.due) (s : Stands held block n work) where
-    not-due : due_in (set work.due n 0) n ≡ true → ⊥
+    not-due : due_in (set work.due n false) n ≡ true → ⊥
     not-due d =
         true≢false
-        (sym d ∙ ap (λ (v : ℕ). not (eqb v 0)) (get_or-set_same work.due n 0 0 (omega (arith, room.due_room))))
+        (sym d ∙ get_or-set_same work.due n false false (omega (arith, room.due_room)))
 
-    cleared-apart : (m : ℕ) → due_in (set work.due n 0) m ≡ true → m ≡ n → ⊥
-    cleared-apart m d e = not-due (subst (λ (k : ℕ). due_in (set work.due n 0) k ≡ true) e d)
+    cleared-apart : (m : ℕ) → due_in (set work.due n false) m ≡ true → m ≡ n → ⊥
+    cleared-apart m d e = not-due (subst (λ (k : ℕ). due_in (set work.due n false) k ≡ true) e d)
 
-    cleared-due : (m : ℕ) → due_in (set work.due n 0) m ≡ true → due_in work.due m ≡ true
-    cleared-due m d = sym (due-stored work.due n 0 m (cleared-apart m d)) ∙ d
+    cleared-due : (m : ℕ) → due_in (set work.due n false) m ≡ true → due_in work.due m ≡ true
+    cleared-due m d = sym (due-stored work.due n false m (cleared-apart m d)) ∙ d
 
     cell-is : due_in work.due n ≡ true → cell_at (table_of held block work) n ≡ holds (since_in (columns_of held) block (get_or work.words n 0))
     cell-is d = cell-held held block work.marks work.words n node (marked-mark held block work.marks work.words n node (s.working.due-marked n node d))
@@ -114,12 +113,12 @@ module _ (columns plan : List ℕ) (drawn : Drawn columns plan) (chosen sets : L
     begins : due_in work.due n ≡ true → Sent held drawn.sound block n (since_in (columns_of held) block (get_or work.words n 0)) (arrows_in held n) (cleared n work)
     begins d =
         record {
-          room = record { marks_room = room.marks_room; words_room = room.words_room; due_room = omega (arith, room.due_room, length-set work.due n 0) };
+          room = record { marks_room = room.marks_room; words_room = room.words_room; due_room = omega (arith, room.due_room, length-set work.due n false) };
           fits = s.fits;
           underway = stands-underway columns plan drawn block inside n work s;
           sending =
-              sending-begins (kept_flow held block) (table_of held block work) (due_in work.due) (due_in (set work.due n 0)) n (since_in (columns_of held) block (get_or work.words n 0)) (cell-is d) s.working cleared-due
-              (λ m q e. due-stored work.due n 0 m q ∙ e);
+              sending-begins (kept_flow held block) (table_of held block work) (due_in work.due) (due_in (set work.due n false)) n (since_in (columns_of held) block (get_or work.words n 0)) (cell-is d) s.working cleared-due
+              (λ m q e. due-stored work.due n false m q ∙ e);
           within = λ m h e. within-next n work.span m (cleared-apart m e) (s.within m h (cleared-due m e));
           to_in = s.to_in;
           high_in = s.high_in;
@@ -139,11 +138,11 @@ module _ (columns plan : List ℕ) (drawn : Drawn columns plan) (chosen sets : L
     -- A turn of node n.
     pub visited-turned : Turned columns plan block n work (visited (group_of columns chosen sets) plan n work)
     unfolding visited
-    visited-turned = go (eqb (get_or work.due n 0) 0) refl
+    visited-turned = go (get_or work.due n false) refl
       where
-        go : (b : Bool) → eqb (get_or work.due n 0) 0 ≡ b → Turned columns plan block n work (visited group plan n work)
-        go true e =
-            let idle : due_in work.due n ≡ false = ap not e in
+        go : (b : Bool) → get_or work.due n false ≡ b → Turned columns plan block n work (visited group plan n work)
+        go false e =
+            let idle : due_in work.due n ≡ false = e in
             let stands : Stands held block (suc n) work = record {
               fits = s.fits;
               begun = s.begun;
@@ -154,8 +153,8 @@ module _ (columns plan : List ℕ) (drawn : Drawn columns plan) (chosen sets : L
               high_in = s.high_in;
             } in
             rw e (record { room = room; stands = rw add-one stands; lighter = omega arith; progress = inr refl })
-        go false e =
-            let sent = takes (ap not e) in
+        go true e =
+            let sent = takes e in
             let less = cleared-lighter (nodes_in plan) work room n node e in
             rw e
             (record {

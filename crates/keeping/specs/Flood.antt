@@ -1,6 +1,6 @@
 -- The table of each block that marks and words hold, what is so while nodes are taken that are due, and what is so when none is.
 -- Nothing here is a rule of the tool: laws and contracts of inner functions speak of it.
-use Rattle.std.specs.Prelude.{ℕ, ◌+◌, ◌-◌, ◌^◌, ◌≤◌, ◌<◌, Bool, true, cond, not, List, ◌⊎◌, ◌≡◌, eqb, get_or}
+use Rattle.std.specs.Prelude.{ℕ, ◌+◌, ◌-◌, ◌^◌, ◌≤◌, ◌<◌, Bool, true, false, cond, List, ◌⊎◌, ◌≡◌, eqb, get_or}
 use Rattle.lists.specs.Lists.{sum_of}
 use Rattle.flow.specs.Flow.{Cell, holds, cell_at}
 use Rattle.flow.specs.Passing.{CellBelow, Passing, Under}
@@ -11,7 +11,9 @@ use Rattle.plan.specs.Listed.{nodes_in, blocks_in, plan_in}
 use Rattle.kept.specs.Since.{Since}
 use Rattle.kept.specs.Kept.{kept_flow, kept_table}
 use Rattle.keeping.specs.declared.span.Span.{Span}
+use Rattle.keeping.specs.declared.words.Group.{Group as HeldGroup}
 use Rattle.keeping.specs.Words.{since_in, EachChosen}
+use Rattle.keeping.specs.declared.putting.Work.{Work as HeldWork}
 use Rattle.keeping.specs.Work.{Work}
 
 -- The state that the word of a node holds, and the table of these: nothing where a mark is 0, as in every table that is read off lists (`layout`).
@@ -21,8 +23,8 @@ word_state plan block words n = since_in (columns_of plan) block (get_or words n
 abbrev pub table_in : Plan → ℕ → List ℕ → List ℕ → List (Cell Since)
 table_in plan block marks words = table_by plan.nodes (word_state plan block words) marks
 
-abbrev pub due_in : List ℕ → ℕ → Bool
-due_in due n = not (eqb (get_or due n 0) 0)
+abbrev pub due_in : List Bool → ℕ → Bool
+due_in due n = get_or due n false
 
 -- Words that fit: none has a bit above the columns, and an unmarked node has none.
 pub record WordsFit (plan : Plan) (marks words : List ℕ) : Type 0 where
@@ -46,7 +48,7 @@ pub record Stands (plan : Plan) (block n : ℕ) (work : Work) : Type 0 where
 -- What is left to do, as a number: for each node the bits that may still come, its mark, and that it is due.
 abbrev pub weight_at : Work → ℕ → ℕ
 weight_at work n =
-    (2 ^ 64 - get_or work.words n 0) + cond (eqb (get_or work.marks n 0) 0) 1 0 + cond (eqb (get_or work.due n 0) 0) 0 1
+    (2 ^ 64 - get_or work.words n 0) + cond (eqb (get_or work.marks n 0) 0) 1 0 + cond (get_or work.due n false) 1 0
 
 abbrev pub weight_of : ℕ → Work → ℕ
 weight_of nodes work = sum_of nodes (weight_at work)
@@ -62,7 +64,7 @@ pub record Flooded (plan : Plan) (block : ℕ) (marks words : List ℕ) : Type 0
   pub fits : WordsFit plan marks words
   pub table : table_in plan block marks words ≡ kept_table plan block
 
--- The same of each block that shares the words; of slices, as a `requires` and an `ensures` name them.
+-- The same of each block that shares the words; and of those that a struct holds.
 abbrev pub AllStand : List ℕ → List ℕ → List ℕ → ℕ → Work → Type 0
 AllStand columns plan chosen n work = EachChosen chosen (blocks_in plan) (λ block. Stands (plan_in columns plan) block n work)
 
@@ -72,12 +74,11 @@ AllSwept columns plan chosen before after = EachChosen chosen (blocks_in plan) (
 abbrev pub AllFlooded : List ℕ → List ℕ → List ℕ → List ℕ → List ℕ → Type 0
 AllFlooded columns plan chosen marks words = EachChosen chosen (blocks_in plan) (λ block. Flooded (plan_in columns plan) block marks words)
 
-abbrev pub StandIn : List ℕ → List ℕ → List ℕ → ℕ → Work → Type 0
-StandIn columns plan chosen n work = AllStand columns plan chosen n work
+abbrev pub StandIn : HeldGroup → List ℕ → ℕ → Work → Type 0
+StandIn group plan n work = AllStand group.columns.now plan group.chosen n work
 
-abbrev pub SweptTo : List ℕ → List ℕ → List ℕ → Work → Work → Type 0
-SweptTo columns plan chosen before after = AllSwept columns plan chosen before after
+abbrev pub SweptTo : HeldGroup → List ℕ → Work → Work → Type 0
+SweptTo group plan before after = AllSwept group.columns.now plan group.chosen before after
 
-abbrev pub FloodedIn : List ℕ → List ℕ → List ℕ → List ℕ → List ℕ → Type 0
-FloodedIn columns plan chosen marks words =
-    AllFlooded columns plan chosen marks words
+abbrev pub FloodedIn : HeldGroup → List ℕ → HeldWork → Type 0
+FloodedIn group plan work = AllFlooded group.columns.now plan group.chosen work.marks work.words

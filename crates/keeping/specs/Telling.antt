@@ -1,25 +1,24 @@
 -- What words tell of the touches of the blocks that share them, node by node, and when all touches of a block are told of. Rules 8.1 and 8.2.
 -- Laws hold it to `StaysTold`.
-use Rattle.std.specs.Prelude.{ℕ, zero, suc, ◌+◌, ◌*◌, ◌/◌, ◌%◌, ◌≤◌, ◌<◌, true, false, cond, List, ◌∷◌, ◌⊎◌, ◌≡◌, eqb, get_or}
+use Rattle.std.specs.Prelude.{ℕ, zero, suc, ◌+◌, ◌*◌, ◌/◌, ◌%◌, ◌≤◌, ◌<◌, true, false, cond, List, ◌∷◌, ◌⊎◌, ◌≡◌, eqb, get_or, None, Option, Some}
 use Rattle.lists.specs.Loops.{patch}
 use Rattle.chart.specs.Geometry.{most_touches}
 use Rattle.ages.specs.Plan.{ColumnTouch, Plan, touches_in}
-use Rattle.plan.specs.declared.PlannedRecord.{PlannedRecord}
-use Rattle.plan.specs.declared.PlannedRecord.TheVariants.{Step, Reference}
 use Rattle.plan.specs.Listed.{node_in, plan_in}
 use Rattle.kept.specs.Kept.{after_touch_of, since_at, stays_by}
 use Rattle.bits.specs.Bits.{is_set}
 use Rattle.keeping.specs.Words.{Group, chosen_for, word_touched, stays_in}
+use Rattle.plan.specs.declared.ColumnTouches.{ColumnTouches}
 
 -- Rule 8.1, of a touch of a column where this word is held: told anew if the column is one of the blocks, else as it was.
 abbrev pub told_by : Group → ℕ → ℕ → ℕ → ℕ
-told_by group word column old = cond (eqb (chosen_for group column) column) (stays_in group column word) old
+told_by group word column old = cond (eqb (chosen_for group column) column) (cond (stays_in group column word) 1 0) old
 
 -- Rule 8.2: touch k of a record, from 0. The first goes by the word on arrival, the second by that after the first.
-abbrev pub told_of : Group → PlannedRecord → ℕ → ℕ → ℕ → ℕ
-told_of group Step word k old = old
-told_of group (Reference reference) word zero old = told_by group word reference.lower old
-told_of group (Reference reference) word (suc k) old =
+abbrev pub told_of : Group → Option ColumnTouches → ℕ → ℕ → ℕ → ℕ
+told_of group None word k old = old
+told_of group (Some reference) word zero old = told_by group word reference.lower old
+told_of group (Some reference) word (suc k) old =
     cond (eqb reference.lower reference.upper) old (told_by group (word_touched group reference.lower word) reference.upper old)
 
 -- Place i, two to a node; and all places of so many nodes.

@@ -3,7 +3,7 @@
 -- a node's touches, and whether few enough are in a set. Rules 8.1, 16.1, 16.3 and 16.4, of words; laws hold them to the states of `kept`.
 -- A choice: `since_in` reads no bit above those of the columns, and `stays_in` counts all that the list of a cache set has; in a table the bits above are
 -- 0 (`WordsFit`).
-use Rattle.std.specs.Prelude.{ℕ, ◌+◌, ◌-◌, ◌*◌, ◌^◌, ◌≤◌, ◌<◌, Bool, false, cond, not, ◌&&◌, ◌||◌, List, ◌≡◌, eqb, ltb, get_or, length}
+use Rattle.std.specs.Prelude.{ℕ, ◌+◌, ◌-◌, ◌*◌, ◌^◌, ◌≤◌, ◌<◌, Bool, false, cond, not, ◌&&◌, ◌||◌, List, ◌≡◌, eqb, ltb, get_or, length, None, Option, Some}
 use Rattle.std.specs.Int.Bits.{bit_and, bit_or}
 use Rattle.std.specs.Int.Count.{ones}
 use Rattle.lists.specs.Lists.{list_of}
@@ -12,10 +12,9 @@ use Rattle.chart.specs.Geometry.{most_blocks}
 use Rattle.cache.specs.Ages.{Columns}
 use Rattle.flow.specs.Walk.{in_turn}
 use Rattle.ages.specs.Plan.{ColumnTouch}
-use Rattle.plan.specs.declared.PlannedRecord.{PlannedRecord}
-use Rattle.plan.specs.declared.PlannedRecord.TheVariants.{Step, Reference}
 use Rattle.plan.specs.Listed.{touches_by}
 use Rattle.kept.specs.Since.{Since}
+use Rattle.plan.specs.declared.ColumnTouches.{ColumnTouches}
 
 -- The blocks that share words, as lists: for each column the one that is of its cache set, and for each set key the columns of that cache set, as
 -- bits. The first numbers of `columns` are set keys.
@@ -68,29 +67,28 @@ word_touched group m word =
 abbrev pub word_after_touch : Group → ColumnTouch → ℕ → ℕ
 word_after_touch group touch word = word_touched group touch.column word
 
-unfoldable pub word_after : Group → PlannedRecord → ℕ → ℕ
+unfoldable pub word_after : Group → Option ColumnTouches → ℕ → ℕ
 word_after group planned word = in_turn (word_after_touch group) (touches_by planned) word
 
--- Rule 8.1: whether fewer are in the set than the limit of the block's column; 1 where it is so.
-unfoldable pub stays_in : Group → ℕ → ℕ → ℕ
+-- Rule 8.1: whether fewer are in the set than the limit of the block's column.
+unfoldable pub stays_in : Group → ℕ → ℕ → Bool
 stays_in group block word =
-    cond (ltb (ones (bit_and word (set_bits group block)) - bit_at (bit_and word (set_bits group block)) block) (get_or group.columns (2 * most_blocks + block) 0)) 1 0
+    ltb (ones (bit_and word (set_bits group block)) - bit_at (bit_and word (set_bits group block)) block) (get_or group.columns (2 * most_blocks + block) 0)
 
 -- Whether a record touches one of the blocks.
-abbrev pub touches_chosen : List ℕ → PlannedRecord → Bool
-touches_chosen chosen Step = false
-touches_chosen chosen (Reference reference) =
+abbrev pub touches_chosen : List ℕ → Option ColumnTouches → Bool
+touches_chosen chosen None = false
+touches_chosen chosen (Some reference) =
     eqb (get_or chosen reference.lower 0) reference.lower || eqb (get_or chosen reference.upper 0) reference.upper
 
 -- What a function asks that touches column m, and one that goes by a record.
-pub record Touchable (columns chosen sets : List ℕ) (m : ℕ) : Type 0 where
+pub record Touchable (group : Group) (m : ℕ) : Type 0 where
   pub column_in : m < most_blocks
-  pub columns_room : 3 * most_blocks ≤ length columns
-  pub chosen_room : m < length chosen
-  pub chosen_in : get_or chosen m 0 < most_blocks
-  pub sets_room : get_or columns m 0 < length sets
+  pub columns_room : 3 * most_blocks ≤ length group.columns
+  pub chosen_room : m < length group.chosen
+  pub chosen_in : chosen_for group m < most_blocks
+  pub sets_room : key_of group m < length group.sets
 
-abbrev pub TouchableBy : List ℕ → List ℕ → List ℕ → PlannedRecord → Type 0
-TouchableBy columns chosen sets Step = Unit {0}
-TouchableBy columns chosen sets (Reference reference) =
-    Touchable columns chosen sets reference.lower × Touchable columns chosen sets reference.upper
+abbrev pub TouchableBy : Group → Option ColumnTouches → Type 0
+TouchableBy group None = Unit {0}
+TouchableBy group (Some reference) = Touchable group reference.lower × Touchable group reference.upper

@@ -1,21 +1,23 @@
 // Chooses the blocks that share words, one of each cache set. Callers keep that the lists have room. Nothing is refused here.
-ghost use Rattle.std.specs.Prelude.{◌≡◌, cond, ℕ, ◌^◌, ◌≤◌, ◌<◌, eqb, length, get_or};
+ghost use Rattle.std.specs.Prelude.{◌≡◌, cond, ◌^◌, ◌≤◌, ◌<◌, eqb, length, replicate};
 ghost use Rattle.chart.specs.Geometry.{most_blocks};
 ghost use Rattle.bits.specs.Bits.{without};
-ghost use Rattle.keeping.specs.Choosing.{most_keys, SetsListed, picked, picked_all, TakenOut};
+ghost use Rattle.keeping.specs.Choosing.{SetsListed, picked, picked_all, TakenOut};
 
-use crate::words::wide;
+use crate::words::Group;
+use chart::Geometry;
 
-// Writes the columns of each cache set as bits, by set key, over zeros.
-pub(crate) fn list_sets(columns: &[u8], sets: &mut [u64], blocks: usize)
-    requires blocks_le_most_blocks { (blocks ≤ most_blocks) × (blocks ≤ length columns.now) }
-    requires sets_len { (length sets.old ≡ most_keys) × ((key : ℕ) → key < most_keys → get_or sets.old key 0 ≡ 0) }
-    ensures { SetsListed columns.now blocks sets.new }
+// Answers the columns of each cache set as bits, by set key.
+pub(crate) fn list_sets(columns: &[u8], blocks: usize) -> [u64; Group::KEYS]
+    requires { (blocks ≤ most_blocks) × (blocks ≤ length columns.now) }
+    ensures { SetsListed columns.now blocks result }
 {
+    let mut sets = [0u64; Group::KEYS];
     for m in 0..blocks {
-        let key = wide(columns[m]);
-        sets[key] = sets[key] | (1 << m);
+        let key = usize::from(columns[m]);
+        sets[key] |= 1 << m;
     }
+    sets
 }
 
 // One column of a cache set: this block, or the lowest that is left, or the lowest.
@@ -33,23 +35,23 @@ fn pick(members: u64, left: u64, block: usize) -> usize
     u64::trailing_zeros(both) as usize
 }
 
-// Writes for each column the block of its cache set that is chosen: this block, and of other cache sets the lowest left, so that soon none is.
+// Answers for each column the block of its cache set that is chosen: this block, and of other cache sets the lowest left, so that soon none is.
 pub(crate) fn choose(
     columns: &[u8],
-    sets: &[u64],
+    sets: &[u64; Group::KEYS],
     left: u64,
     block: usize,
-    chosen: &mut [u8],
     blocks: usize,
-)
-    requires block_lt_most_blocks { (block < most_blocks) × (blocks ≤ length columns.now) }
-    requires sets_len { (length sets.now ≡ most_keys) × (blocks ≤ length chosen.old) }
-    ensures { chosen.new ≡ picked_all columns.now sets.now left block blocks chosen.old }
+) -> [u8; Geometry::BLOCKS]
+    requires { (block < most_blocks) × ((blocks ≤ most_blocks) × (blocks ≤ length columns.now)) }
+    ensures { result ≡ picked_all columns.now sets.now left block blocks (replicate most_blocks 0) }
 {
+    let mut chosen = [0u8; Geometry::BLOCKS];
     for m in 0..blocks {
-        let key = wide(columns[m]);
+        let key = usize::from(columns[m]);
         chosen[m] = pick(sets[key], left, block) as u8;
     }
+    chosen
 }
 
 // What is left without column m, if that is the one that is chosen.
@@ -63,14 +65,16 @@ fn left_without(rest: u64, m: usize, picked: usize) -> u64
     rest
 }
 
-// What is left without the blocks that are chosen; none else is taken out.
-pub(crate) fn left_after(chosen: &[u8], left: u64, blocks: usize) -> u64
-    requires { (blocks ≤ most_blocks) × (blocks ≤ length chosen.now) }
-    ensures { TakenOut chosen.now blocks left result }
-{
-    let mut rest = left;
-    for m in 0..blocks {
-        rest = left_without(rest, m, wide(chosen[m]));
+impl Group<'_> {
+    // What is left without the blocks that are chosen; none else is taken out.
+    pub(crate) fn left_after(&self, left: u64, blocks: usize) -> u64
+        requires { blocks ≤ most_blocks }
+        ensures { TakenOut self.now.chosen blocks left result }
+    {
+        let mut rest = left;
+        for m in 0..blocks {
+            rest = left_without(rest, m, usize::from(self.chosen[m]));
+        }
+        rest
     }
-    rest
 }

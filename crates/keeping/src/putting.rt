@@ -1,60 +1,62 @@
-// Joins a word into those of targets. Callers keep that the lists have room for the nodes and that arrows lead to nodes. Nothing is
+// What is worked on while words are sent along arrows, and a word joined into those of targets. Callers keep that arrows lead to nodes. Nothing is
 // refused here.
-ghost use Rattle.std.specs.Prelude.{◌≡◌, ◌<◌, length};
+ghost use Rattle.std.specs.Prelude.{◌≡◌, ◌<◌};
+ghost use Rattle.chart.specs.Geometry.{most_nodes};
 ghost use Rattle.chart.specs.Record.{arrows_of, Leads};
-ghost use Rattle.keeping.specs.Work.{put_word, sent_all, RoomFor, work_before, work_after};
+ghost use Rattle.keeping.specs.Work.{nothing_done, put_word, sent_all, work_at};
 
-use crate::span::{Span, span_with};
-use chart::Targets;
+use crate::span::Span;
+use chart::{Geometry, Targets};
 
-// Joins a word into that of node t (rule 16.5), and marks t. Where anything has changed, t is due.
-fn put_word(
-    marks: &mut [u8],
-    words: &mut [u64],
-    due: &mut [u8],
-    span: Span,
-    n: usize,
-    t: usize,
-    out: u64,
-) -> Span
-    requires { (t < length marks.old) × ((t < length words.old) × (t < length due.old)) }
-    ensures { work_after marks.new words.new due.new result ≡ put_word n out t (work_before marks.old words.old due.old span) }
-{
-    let old = words[t];
-    let new = old | out;
-    if (new != old) | (marks[t] == 0) {
-        words[t] = new;
-        marks[t] = 1;
-        due[t] = 1;
-        return span_with(span, n, t);
-    }
-    span
+// Of each node its mark, its word and whether it is due. The span of those that are due is handed on by itself: as a field here it would be stored and
+// loaded at each node, which is slower.
+#[derive(Drop)]
+pub struct Work {
+    pub marks: [u8; Geometry::NODES],
+    pub words: [u64; Geometry::NODES],
+    pub due: [bool; Geometry::NODES],
 }
 
-// Joins a word into that of the first target of node n and then of the second.
-pub(crate) fn send_word(
-    marks: &mut [u8],
-    words: &mut [u64],
-    due: &mut [u8],
-    span: Span,
-    n: usize,
-    nodes: usize,
-    targets: Targets,
-    out: u64,
-) -> Span
-    requires room_for { RoomFor nodes marks.old words.old due.old }
-    requires leads { Leads nodes targets }
-    ensures { work_after marks.new words.new due.new result ≡ sent_all n out (arrows_of targets) (work_before marks.old words.old due.old span) }
-{
-    let outs = targets.outs;
-    let first = targets.first;
-    let second = targets.second;
-    if outs == 0 {
-        return span;
+impl Work {
+    // Nothing is marked, touched or due.
+    pub(crate) fn new() -> Work
+        ensures { result ≡ nothing_done }
+    {
+        Work {
+            marks: [0u8; Geometry::NODES],
+            words: [0u64; Geometry::NODES],
+            due: [false; Geometry::NODES],
+        }
     }
-    let sent = put_word(marks, words, due, span, n, first, out);
-    if outs == 1 {
-        return sent;
+
+    // Joins a word into that of node t (rule 16.5), and marks t. Where anything has changed, t is due.
+    fn put_word(&mut self, span: Span, n: usize, t: usize, out: u64) -> Span
+        requires { t < most_nodes }
+        ensures { work_at self.new result ≡ put_word n out t (work_at self.old span) }
+    {
+        let old = self.words[t];
+        let new = old | out;
+        if (new != old) | (self.marks[t] == 0) {
+            self.words[t] = new;
+            self.marks[t] = 1;
+            self.due[t] = true;
+            return span.span_with(n, t);
+        }
+        span
     }
-    put_word(marks, words, due, sent, n, second, out)
+
+    // Joins a word into that of the first target of node n and then of the second.
+    pub(crate) fn send_word(&mut self, span: Span, n: usize, targets: Targets, out: u64) -> Span
+        requires { Leads most_nodes targets }
+        ensures { work_at self.new result ≡ sent_all n out (arrows_of targets) (work_at self.old span) }
+    {
+        if targets.outs == 0 {
+            return span;
+        }
+        let sent = self.put_word(span, n, targets.first, out);
+        if targets.outs == 1 {
+            return sent;
+        }
+        self.put_word(sent, n, targets.second, out)
+    }
 }

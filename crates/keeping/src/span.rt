@@ -1,5 +1,5 @@
 // Where nodes stand that are due, and a node more. Nothing is refused here.
-ghost use Rattle.std.specs.Prelude.{◌≡◌, ◌+◌, ◌^◌, ◌<◌, max, min};
+ghost use Rattle.std.specs.Prelude.{◌≡◌, ◌+◌, ◌^◌, ◌<◌};
 ghost use Rattle.keeping.specs.Work.{span_with};
 
 // Where nodes that are due stand: from the node at hand to before `to`, or from `low` to before `high`.
@@ -10,33 +10,23 @@ pub struct Span {
     pub high: usize,
 }
 
-fn larger(a: usize, b: usize) -> usize
-    ensures { result ≡ max a b }
-{
-    if a < b { b } else { a }
-}
-
-fn smaller(a: usize, b: usize) -> usize
-    ensures { result ≡ min a b }
-{
-    if a < b { a } else { b }
-}
-
-// A span that has node t too, where node n is at hand: one ahead is met in the same turn, another in the next.
-pub(crate) fn span_with(span: Span, n: usize, t: usize) -> Span
-    requires { t + 1 < 2 ^ 64 }
-    ensures { result ≡ span_with n t span }
-{
-    if n < t {
-        return Span {
-            to: larger(span.to, t + 1),
-            low: span.low,
-            high: span.high,
-        };
-    }
-    Span {
-        to: span.to,
-        low: smaller(span.low, t),
-        high: larger(span.high, t + 1),
+impl Span {
+    // A span that has node t too, where node n is at hand: one ahead is met in the same turn, another in the next.
+    pub(crate) fn span_with(self, n: usize, t: usize) -> Span
+        requires { t + 1 < 2 ^ 64 }
+        ensures { result ≡ span_with n t self }
+    {
+        if n < t {
+            return Span {
+                to: self.to.max(t + 1),
+                low: self.low,
+                high: self.high,
+            };
+        }
+        Span {
+            to: self.to,
+            low: self.low.min(t),
+            high: self.high.max(t + 1),
+        }
     }
 }

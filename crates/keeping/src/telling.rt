@@ -7,84 +7,64 @@ ghost use Rattle.keeping.specs.Words.{Touchable, TouchableBy};
 ghost use Rattle.keeping.specs.Columns.{RecordsTouchable, group_at};
 ghost use Rattle.keeping.specs.Telling.{told_by, told_of, told_all};
 
-use crate::words::{stays_in, touch_word, wide};
+use crate::words::Group;
 use chart::Geometry;
-use plan::PlannedRecord;
+use plan::ColumnTouches;
 
-// What is told of a touch of a column where this word is held: anew if the column is one of the blocks, else as it was.
-fn told_by(columns: &[u8], chosen: &[u8], sets: &[u64], word: u64, column: usize, old: u8) -> u8
-    requires { Touchable columns.now chosen.now sets.now column }
-    ensures { result ≡ told_by (group_at columns.now chosen.now sets.now) word column old }
-{
-    if wide(chosen[column]) == column {
-        return stays_in(columns, chosen, sets, word, column);
+impl Group<'_> {
+    // What is told of a touch of a column where this word is held: anew if the column is one of the blocks, else as it was.
+    fn told_by(&self, word: u64, column: usize, old: u8) -> u8
+        requires { Touchable (group_at self.now) column }
+        ensures { result ≡ told_by (group_at self.now) word column old }
+    {
+        if usize::from(self.chosen[column]) == column {
+            return u8::from(self.stays_in(word, column));
+        }
+        old
     }
-    old
-}
 
-// What is told of the first touch of a record, by the word on arrival (rule 8.2).
-fn first_told(
-    columns: &[u8],
-    chosen: &[u8],
-    sets: &[u64],
-    planned: PlannedRecord,
-    word: u64,
-    old: u8,
-) -> u8
-    requires { TouchableBy columns.now chosen.now sets.now planned }
-    ensures { result ≡ told_of (group_at columns.now chosen.now sets.now) planned word 0 old }
-{
-    let PlannedRecord::Reference(reference) = planned else {
-        return old;
-    };
-    told_by(columns, chosen, sets, word, reference.lower, old)
-}
-
-// What is told of the second, if there is one, by the word after the first.
-fn second_told(
-    columns: &[u8],
-    chosen: &[u8],
-    sets: &[u64],
-    planned: PlannedRecord,
-    word: u64,
-    old: u8,
-) -> u8
-    requires { TouchableBy columns.now chosen.now sets.now planned }
-    ensures { result ≡ told_of (group_at columns.now chosen.now sets.now) planned word 1 old }
-{
-    let PlannedRecord::Reference(reference) = planned else {
-        return old;
-    };
-    let lower = reference.lower;
-    let upper = reference.upper;
-    if lower == upper {
-        return old;
+    // What is told of the first touch of a record, by the word on arrival (rule 8.2).
+    fn first_told(&self, planned: Option<ColumnTouches>, word: u64, old: u8) -> u8
+        requires { TouchableBy (group_at self.now) planned }
+        ensures { result ≡ told_of (group_at self.now) planned word 0 old }
+    {
+        let Some(reference) = planned else {
+            return old;
+        };
+        self.told_by(word, reference.lower, old)
     }
-    let touched = touch_word(columns, chosen, sets, word, lower);
-    told_by(columns, chosen, sets, touched, upper, old)
-}
 
-// Tells of all touches of the blocks that are chosen.
-pub(crate) fn tell_chosen(
-    columns: &[u8],
-    plan: &[u16],
-    chosen: &[u8],
-    sets: &[u64],
-    words: &[u64],
-    stays: &mut [u8],
-    nodes: usize,
-)
-    requires nodes_in_bounds { (node_place nodes ≤ length plan.now) × ((nodes ≤ length words.now) × (most_touches * nodes ≤ length stays.old)) }
-    requires records_touchable { RecordsTouchable columns.now chosen.now sets.now plan.now nodes }
-    ensures { stays.new ≡ told_all (group_at columns.now chosen.now sets.now) plan.now words.now nodes stays.old }
-{
-    for n in 0..nodes {
-        let node = plan::node_in(plan, n);
-        let planned = node.what;
-        let word = words[n];
-        let first = Geometry::TOUCHES * n;
-        let second = first + 1;
-        stays[first] = first_told(columns, chosen, sets, planned, word, stays[first]);
-        stays[second] = second_told(columns, chosen, sets, planned, word, stays[second]);
+    // What is told of the second, if there is one, by the word after the first.
+    fn second_told(&self, planned: Option<ColumnTouches>, word: u64, old: u8) -> u8
+        requires { TouchableBy (group_at self.now) planned }
+        ensures { result ≡ told_of (group_at self.now) planned word 1 old }
+    {
+        let Some(reference) = planned else {
+            return old;
+        };
+        let lower = reference.lower;
+        let upper = reference.upper;
+        if lower == upper {
+            return old;
+        }
+        let touched = self.touch_word(word, lower);
+        self.told_by(touched, upper, old)
+    }
+
+    // Tells of all touches of the blocks that are chosen.
+    pub(crate) fn tell_chosen(&self, plan: &[u16], words: &[u64], stays: &mut [u8], nodes: usize)
+        requires nodes_in_bounds { (node_place nodes ≤ length plan.now) × ((nodes ≤ length words.now) × (most_touches * nodes ≤ length stays.old)) }
+        requires records_touchable { RecordsTouchable (group_at self.now) plan.now nodes }
+        ensures { stays.new ≡ told_all (group_at self.now) plan.now words.now nodes stays.old }
+    {
+        for n in 0..nodes {
+            let node = plan::node_in(plan, n);
+            let planned = node.what;
+            let word = words[n];
+            let first = Geometry::TOUCHES * n;
+            let second = first + 1;
+            stays[first] = self.first_told(planned, word, stays[first]);
+            stays[second] = self.second_told(planned, word, stays[second]);
+        }
     }
 }

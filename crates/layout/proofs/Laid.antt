@@ -8,7 +8,7 @@ use lib.Seq.{set-append_left, map-set_same}
 use Rattle.lists.specs.Lists.{list_of, written}
 use Rattle.lists.specs.Loops.{patch}
 use Rattle.lists.proofs.Listed.{list_of-same, list_of-at, take-agree}
-use Rattle.lists.proofs.Joined.{length-written, get_or-written, written-written, map-set, map-replicate, length-rows, get_d_rows, rows-replicate, row_in, rows-stored}
+use Rattle.lists.proofs.Joined.{length-written, get_or-written, written-written, map-set, map-replicate, length-rows, get_or-rows, rows-replicate, row_in, rows-stored}
 use Rattle.flow.specs.Flow.{Cell, blank, holds, cell_at}
 use Rattle.layout.specs.Rows.{mark_of, marks_of, row_at}
 use Rattle.layout.specs.Kinds.{CellFits, Fitted, Kind, kind_row, kind_rows}
@@ -33,7 +33,7 @@ module _ {X : Type 0} {Fits : X → Type 0} (K : Kind Fits) {nodes : ℕ} {T : L
       → get_or (written (kind_rows K T) l) (n * K.count + k) 0 ≡ get_or (kind_row K c) k 0
   row_read l n h c e k i =
       get_or-written (kind_rows K T) l (n * K.count + k) 0 (omega (arith, rows_long, row_in n nodes K.count h))
-      ∙ get_d_rows (kind_row K) K.count blank T rowed n k 0 (omega (arith, s.long)) i
+      ∙ get_or-rows (kind_row K) K.count blank T rowed n k 0 (omega (arith, s.long)) i
       ∙ ap (λ (c : Cell X). get_or (kind_row K c) k 0) e
 
   pub row-whole : (l : List ℕ) (n : ℕ) → n < nodes → (c : Cell X) → cell_at T n ≡ c → row_at K.count (written (kind_rows K T) l) n ≡ kind_row K c

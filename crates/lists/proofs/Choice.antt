@@ -1,4 +1,5 @@
 -- Laws of the first rule that applies, of the first number that passes a test, of two tests, and of a test that every number passes.
+use Rattle.std.specs.Prelude.{Option, Some, None}
 use mathlib.Core.Bool.{Bool, true, false, cond, ◌&&◌, ◌||◌}
 use mathlib.Core.List.{List, [], ◌∷◌, ◌++◌}
 use mathlib.Core.Logic.{◌⊎◌, inl, inr, ⊎_elim}
@@ -9,7 +10,7 @@ use native.Mathlib.Omega.{arith}
 use native.Mathlib.Decide.{ℕ_discrete}
 use borrow.Author.Tests.{ltb-false, le-ltb}
 use lib.Dec.{ltb}
-use Rattle.lists.specs.Choice.{Case, ◌⇒◌, first_case, NoneApplies, FirstApplies, first_from, first, every, every_of}
+use Rattle.lists.specs.Choice.{Case, ◌⇒◌, first_case, NoneApplies, FirstApplies, first_from, first, found, every, every_of}
 use Rattle.lists.specs.Lists.{Among}
 use Rattle.lists.specs.Answers.{every_answer}
 
@@ -231,3 +232,19 @@ every_of-all test (x ∷ xs) e t (inr i) = every_of-all test xs (and-true (test 
 pub all-every_of : (test : ℕ → Bool) (xs : List ℕ) → ((t : ℕ) → Among t xs → test t ≡ true) → every_of test xs ≡ true
 all-every_of test [] h = refl
 all-every_of test (x ∷ xs) h = true-and (test x) (every_of test xs) (h x (inl refl)) (all-every_of test xs (λ t i. h t (inr i)))
+
+-- ---- the first number that passes, if one does
+
+pub found-some : (n k node : ℕ) → found n k ≡ Some node → (ltb k n ≡ true) × (k ≡ node)
+found-some n k node = go (ltb k n)
+  where
+    go : (t : Bool) → ◌≡◌ {A = Option ℕ} (cond t (Some k) None) (Some node) → (t ≡ true) × (k ≡ node)
+    go true e = (refl, cc)
+    go false e = let z : ◌≡◌ {A = ℕ} 0 1 = cc in absurd (omega arith)
+
+pub found-none : (n k : ℕ) → found n k ≡ None → ltb k n ≡ false
+found-none n k = go (ltb k n)
+  where
+    go : (t : Bool) → ◌≡◌ {A = Option ℕ} (cond t (Some k) None) None → t ≡ false
+    go true e = let z : ◌≡◌ {A = ℕ} 0 1 = cc in absurd (omega arith)
+    go false e = refl

@@ -56,14 +56,14 @@ module _ {C X : Type 0} (row : C → List X) (count : ℕ) (d : C) where
   length-rows [] r = omega arith
   length-rows (c ∷ cells) r = omega (arith, length-append (row c) (rows cells), r zero, length-rows cells (λ n. r (suc n)))
 
-  pub get_d_rows : (cells : List C) → Rowed cells → (n k : ℕ) (z : X) → n < length cells → k < count → get_or (rows cells) (n * count + k) z ≡ get_or (row (get_or cells n d)) k z
-  get_d_rows [] r n k z h i = absurd (omega arith)
-  get_d_rows (c ∷ cells) r zero k z h i =
+  pub get_or-rows : (cells : List C) → Rowed cells → (n k : ℕ) (z : X) → n < length cells → k < count → get_or (rows cells) (n * count + k) z ≡ get_or (row (get_or cells n d)) k z
+  get_or-rows [] r n k z h i = absurd (omega arith)
+  get_or-rows (c ∷ cells) r zero k z h i =
       let here : zero * count + k ≡ k = omega arith in
       rw here (get_or-append (row c) (rows cells) z k (omega (arith, r zero)))
-  get_d_rows (c ∷ cells) r (suc n) k z h i =
+  get_or-rows (c ∷ cells) r (suc n) k z h i =
       let there : suc n * count + k ≡ length (row c) + (n * count + k) = omega (arith, r zero) in
-      rw there (get_or-append-add (row c) (rows cells) (n * count + k) z ∙ get_d_rows cells (λ n. r (suc n)) n k z (omega arith) i)
+      rw there (get_or-append-add (row c) (rows cells) (n * count + k) z ∙ get_or-rows cells (λ n. r (suc n)) n k z (omega arith) i)
 
   -- One row replaced.
   pub rows-set : (cells : List C) → Rowed cells → (t : ℕ) (c : C) → t < length cells → rows (set cells t c) ≡ take (t * count) (rows cells) ++ (row c ++ drop (t * count + count) (rows cells))

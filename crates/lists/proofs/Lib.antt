@@ -9,3 +9,4 @@ pub mod Same
 pub mod Firsts
 pub mod Telling
 pub mod Shifts
+pub mod Asked

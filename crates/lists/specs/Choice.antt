@@ -1,7 +1,7 @@
 -- The first of a list of cases that applies, with its answer, and the first number that passes a test. Rule 11.0, for any answers: a case
 -- is one row of a table, a test and what is answered where it is passed.
 -- A choice: where no number below n passes, the first is n.
-use Rattle.std.specs.Prelude.{◌≡◌, Bool, true, false, cond, ◌&&◌, ◌⊎◌, List, [], ◌∷◌, ℕ, zero, suc}
+use Rattle.std.specs.Prelude.{◌≡◌, Bool, true, false, cond, ◌&&◌, ◌⊎◌, List, [], ◌∷◌, ℕ, zero, suc, ltb, Option, Some, None}
 
 infix 30 ◌⇒◌
 -- Whether it applies, and what is answered then.
@@ -32,6 +32,10 @@ first_from k (suc left) test = cond (test k) k (first_from (suc k) left test)
 -- Rule 11.0, of places: the first number below n that passes the test, or n.
 abbrev pub first : ℕ → (ℕ → Bool) → ℕ
 first n test = first_from zero n test
+
+-- The same, where one passes; none, where the first is n.
+abbrev pub found : ℕ → ℕ → Option ℕ
+found n k = cond (ltb k n) (Some k) None
 
 -- Whether every number below n passes the test.
 abbrev pub every : ℕ → (ℕ → Bool) → Bool

@@ -1,4 +1,5 @@
 -- What a plan in two flat lists says of each node and column: it is what stands in the lists, and within them.
+use Rattle.std.specs.Prelude.{None, Option, Some}
 use Prim.Native.Nat.{ℕ, ◌+◌, ◌*◌, ◌≤◌, ◌<◌}
 use mathlib.Core.Bool.{Bool, true, false}
 use mathlib.Core.List.{List}
@@ -14,9 +15,8 @@ use Rattle.chart.specs.Geometry.{most_blocks}
 use Rattle.chart.specs.Record.{arrows_of, Leads}
 use Rattle.chart.specs.declared.records.Targets.{Targets}
 use Rattle.ages.specs.Plan.{ColumnTouch, PlanNode, nothing, columns_of, touches_in, arrows_in}
-use Rattle.plan.specs.declared.PlannedRecord.{PlannedRecord}
-use Rattle.plan.specs.declared.PlannedRecord.TheVariants.{Step, Reference}
 use Rattle.plan.specs.Listed.{nodes_in, blocks_in, node_place, node_in, touches_by, plan_node, plan_in, Drawn, RecordIn}
+use Rattle.plan.specs.declared.ColumnTouches.{ColumnTouches}
 
 -- ---- arrows that lead to nodes, from what is known of each
 
@@ -72,9 +72,9 @@ module _ (columns plan : List ℕ) where
     record-in =
         go (node_in plan n).what (λ touch i. drawn.sound.columns_in n inside touch (subst (Among touch) (sym (touches-held n inside)) i))
       where
-        go : (planned : PlannedRecord) → ((touch : ColumnTouch) → Among touch (touches_by planned) → touch.column < blocks_in plan) → RecordIn (blocks_in plan) planned
-        go Step each = tt
-        go (Reference reference) each =
+        go : (planned : Option ColumnTouches) → ((touch : ColumnTouch) → Among touch (touches_by planned) → touch.column < blocks_in plan) → RecordIn (blocks_in plan) planned
+        go None each = tt
+        go (Some reference) each =
             let lower : reference.lower < blocks_in plan = each (record { column = reference.lower; write = reference.write }) (inl refl) in
             (lower, upper_in (eqb reference.lower reference.upper) refl)
           where
@@ -83,9 +83,9 @@ module _ (columns plan : List ℕ) where
             upper_in false e = each (record { column = reference.upper; write = reference.write }) (rw e (inr (inl refl)))
 
 -- A reference that is of two of so many columns is of two of more.
-pub record-fits : (count more : ℕ) → count ≤ more → (planned : PlannedRecord) → RecordIn count planned → RecordIn more planned
-record-fits count more few Step inside = tt
-record-fits count more few (Reference reference) inside = (omega (arith, inside.0), omega (arith, inside.1))
+pub record-fits : (count more : ℕ) → count ≤ more → (planned : Option ColumnTouches) → RecordIn count planned → RecordIn more planned
+record-fits count more few None inside = tt
+record-fits count more few (Some reference) inside = (omega (arith, inside.0), omega (arith, inside.1))
 
 -- The head of a plan is there.
 pub head-listed : (columns plan : List ℕ) → Drawn columns plan → 4 ≤ length plan

@@ -3,15 +3,14 @@
 -- numbers follow for each node: kind in two bits, how many arrows in the next two and above them the columns of the lower and the upper block; then
 -- where the two arrows lead. A reference to one block has its column twice. A number that is not there counts as 0, a start other than 0 as
 -- empty, and kind 3, which no chart has, as a read.
-use Rattle.std.specs.Prelude.{ℕ, ◌+◌, ◌*◌, ◌/◌, ◌%◌, ◌≤◌, ◌<◌, Bool, not, cond, List, [], ◌∷◌, get_or, length, eqb}
+use Rattle.std.specs.Prelude.{ℕ, ◌+◌, ◌*◌, ◌/◌, ◌%◌, ◌≤◌, ◌<◌, Bool, not, cond, List, [], ◌∷◌, get_or, length, eqb, None, Option, Some}
 use Rattle.lists.specs.Lists.{list_of}
 use Rattle.lists.specs.Slices.{Passed, Slice}
 use Rattle.chart.specs.Geometry.{most_nodes, most_blocks}
 use Rattle.chart.specs.Record.{arrows_of}
 use Rattle.ages.specs.Plan.{ColumnTouch, PlanNode, Plan, Sound}
-use Rattle.plan.specs.declared.PlannedRecord.{PlannedRecord}
-use Rattle.plan.specs.declared.PlannedRecord.TheVariants.{Step, Reference}
-use Rattle.plan.specs.declared.PlannedNode.{PlannedNode}
+use Rattle.plan.specs.declared.ColumnTouches.{ColumnTouches}
+use Rattle.chart.specs.declared.records.Node.{Node}
 
 -- The head: N, B, the entry, and whether the start is empty.
 abbrev pub nodes_in : List ℕ → ℕ
@@ -31,11 +30,11 @@ abbrev pub node_place : ℕ → ℕ
 node_place n = 4 + 3 * n
 
 -- Rule 2.2: what a kind of this number does to these two columns.
-abbrev pub planned_of : ℕ → ℕ → ℕ → PlannedRecord
-planned_of kind lower upper = cond (eqb kind 0) Step (Reference (record { lower = lower; upper = upper; write = eqb kind 2 }))
+abbrev pub planned_of : ℕ → ℕ → ℕ → Option ColumnTouches
+planned_of kind lower upper = cond (eqb kind 0) None (Some (record { lower = lower; upper = upper; write = eqb kind 2 }))
 
 -- A node as the functions hand it on, by its three numbers.
-abbrev pub node_from : ℕ → ℕ → ℕ → PlannedNode
+abbrev pub node_from : ℕ → ℕ → ℕ → Node ColumnTouches
 node_from deed first second =
     record {
       what = planned_of (deed % 4) (deed / 16 % most_blocks) (deed / 16 / most_blocks);
@@ -43,24 +42,24 @@ node_from deed first second =
     }
 
 -- Node n, by the numbers that stand there.
-abbrev pub node_in : List ℕ → ℕ → PlannedNode
+abbrev pub node_in : List ℕ → ℕ → Node ColumnTouches
 node_in plan n = node_from (get_or plan (node_place n) 0) (get_or plan (node_place n + 1) 0) (get_or plan (node_place n + 2) 0)
 
 -- Rule 3.3, by columns: the lower block first, and then the upper if that is another. Rule 2.7: a bare step has no touch, so that nothing is done
 -- for it.
-abbrev pub touches_by : PlannedRecord → List ColumnTouch
-touches_by Step = []
-touches_by (Reference reference) =
+abbrev pub touches_by : Option ColumnTouches → List ColumnTouch
+touches_by None = []
+touches_by (Some reference) =
     record { column = reference.lower; write = reference.write }
     ∷ cond (eqb reference.lower reference.upper) [] (record { column = reference.upper; write = reference.write } ∷ [])
 
 -- A reference is of two of the columns, or twice of one.
-abbrev pub RecordIn : ℕ → PlannedRecord → Type 0
-RecordIn count Step = Unit {0}
-RecordIn count (Reference reference) = (reference.lower < count) × (reference.upper < count)
+abbrev pub RecordIn : ℕ → Option ColumnTouches → Type 0
+RecordIn count None = Unit {0}
+RecordIn count (Some reference) = (reference.lower < count) × (reference.upper < count)
 
 -- What a node does, as a plan has it.
-abbrev pub plan_node : PlannedNode → PlanNode
+abbrev pub plan_node : Node ColumnTouches → PlanNode
 plan_node node = record { touches = touches_by node.what; arrows = arrows_of node.targets }
 
 -- The plan that two lists hold.

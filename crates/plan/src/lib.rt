@@ -3,9 +3,9 @@
 #![tactic(auto)]
 
 ghost use Rattle.std.specs.Prelude.{◌≡◌, ◌+◌, ◌≤◌, ◌<◌, length};
-ghost use Rattle.plan.specs.Listed.{nodes_in, blocks_in, entry_in, empty_in, planned_of, node_place, node_in};
+ghost use Rattle.plan.specs.Listed.{nodes_in, blocks_in, entry_in, empty_in, planned_of, node_place, node_in, Drawn};
 
-use chart::{Geometry, Targets};
+use chart::{Geometry, Node, Targets};
 
 // The length of `columns`: a key, a must limit and a may limit for each block of the most that there can be, in three runs.
 pub const COLUMNS: usize = 3 * Geometry::BLOCKS;
@@ -31,33 +31,12 @@ pub struct ColumnTouches {
     pub write: bool,
 }
 
-// What a record does: a bare step, or a reference.
-#[derive(Clone, Copy)]
-pub enum PlannedRecord {
-    Step,
-    Reference(ColumnTouches),
-}
-
-// What a node does, and where its arrows lead.
-#[derive(Clone, Copy)]
-pub struct PlannedNode {
-    pub what: PlannedRecord,
-    pub targets: Targets,
-}
-
-// The same number, of another type.
-fn wide(number: u16) -> usize
-    ensures { result ≡ number }
-{
-    number as usize
-}
-
 // How many nodes there are: the first number.
 pub fn nodes_in(plan: &[u16]) -> usize
     requires { 0 < length plan.now }
     ensures { result ≡ nodes_in plan.now }
 {
-    wide(plan[0])
+    usize::from(plan[0])
 }
 
 // How many blocks there are: the second number.
@@ -65,7 +44,7 @@ pub fn blocks_in(plan: &[u16]) -> usize
     requires { 1 < length plan.now }
     ensures { result ≡ blocks_in plan.now }
 {
-    wide(plan[1])
+    usize::from(plan[1])
 }
 
 // The entry: the third number.
@@ -73,7 +52,7 @@ pub fn entry_in(plan: &[u16]) -> usize
     requires { 2 < length plan.now }
     ensures { result ≡ entry_in plan.now }
 {
-    wide(plan[2])
+    usize::from(plan[2])
 }
 
 // Whether the start is empty: the fourth number is not 0.
@@ -85,13 +64,13 @@ pub fn empty_in(plan: &[u16]) -> bool
 }
 
 // What a node of this kind does to these two columns (rule 2.2); a kind that there is not reads.
-fn planned_of(kind: usize, lower: usize, upper: usize) -> PlannedRecord
+fn planned_of(kind: usize, lower: usize, upper: usize) -> Option<ColumnTouches>
     ensures { result ≡ planned_of kind lower upper }
 {
     if kind == 0 {
-        return PlannedRecord::Step;
+        return None;
     }
-    PlannedRecord::Reference(ColumnTouches {
+    Some(ColumnTouches {
         lower: lower,
         upper: upper,
         write: kind == 2,
@@ -99,21 +78,67 @@ fn planned_of(kind: usize, lower: usize, upper: usize) -> PlannedRecord
 }
 
 // What node n does and where its arrows lead, out of its three numbers.
-pub fn node_in(plan: &[u16], n: usize) -> PlannedNode
+pub fn node_in(plan: &[u16], n: usize) -> Node<ColumnTouches>
     requires { node_place n + 3 ≤ length plan.now }
     ensures { result ≡ node_in plan.now n }
 {
     let place = HEAD + NODE * n;
-    let deed = wide(plan[place]);
+    let deed = usize::from(plan[place]);
     let both = deed / 16;
     let planned = planned_of(deed % 4, both % Geometry::BLOCKS, both / Geometry::BLOCKS);
     let targets = Targets {
         outs: deed / 4 % 4,
-        first: wide(plan[place + 1]),
-        second: wide(plan[place + 2]),
+        first: usize::from(plan[place + 1]),
+        second: usize::from(plan[place + 2]),
     };
-    PlannedNode {
+    Node {
         what: planned,
         targets: targets,
+    }
+}
+
+// A plan in two lists, drawn: sound, and no larger than a chart's.
+#[derive(Clone, Copy)]
+pub struct DrawnPlan<'a> {
+    pub columns: &'a [u8],
+    pub numbers: &'a [u16],
+    pub ghost drawn: { Drawn columns.now numbers.now },
+}
+
+impl<'a> DrawnPlan<'a> {
+    // How many nodes there are.
+    pub fn nodes(self) -> usize
+        ensures { result ≡ nodes_in self.entry.numbers.now }
+    {
+        nodes_in(self.numbers)
+    }
+
+    // How many blocks there are.
+    pub fn blocks(self) -> usize
+        ensures { result ≡ blocks_in self.entry.numbers.now }
+    {
+        blocks_in(self.numbers)
+    }
+
+    // The entry.
+    pub fn entry(self) -> usize
+        ensures { result ≡ entry_in self.entry.numbers.now }
+    {
+        entry_in(self.numbers)
+    }
+
+    // Whether the start is empty.
+    pub fn starts_empty(self) -> bool
+        ensures { result ≡ empty_in self.entry.numbers.now }
+    {
+        empty_in(self.numbers)
+    }
+
+    // What node n does and where its arrows lead.
+    pub fn node(self, n: usize) -> Node<ColumnTouches>
+        requires { n < nodes_in self.numbers.now }
+        ensures { result ≡ node_in self.entry.numbers.now n }
+    {
+        node_in(self.numbers, n)
     }
 }

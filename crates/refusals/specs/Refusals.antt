@@ -1,6 +1,7 @@
--- The refusals' numbers and places. Rule 11.0, with the numbers of rules 11.1 to 11.18 and 11.23 to 11.25; 19 to 22 are given by nothing yet.
+-- The refusals' numbers and places, and a refusal's text. Rule 11.0, with the numbers of rules 11.1 to 11.18 and 11.23 to 11.25, and rule 14.3; 19 to 22
+-- are given by nothing yet.
 -- When each applies is not said here, but beside the function that gives it.
-use Rattle.std.specs.Prelude.{ℕ}
+use Rattle.std.specs.Prelude.{ℕ, List, ◌++◌, codes, decimal}
 use Rattle.refusals.specs.declared.Refusal.{Refusal}
 use Rattle.refusals.specs.declared.Refusal.TheVariants.{TooShort, Edition, CacheShape, StartCode, NodeCount, EntryNode, SpareBits, Length, BrokenRecord, TooManyBlocks, ShortBuffer, Unsettled, NotPassing, BoundsLength, MissBelowHit, FloorAboveCeiling, FloorAtUnmarked, ImpossibleTimes, FactsLength, NumberOutOfRange, CertificateFails}
 
@@ -51,3 +52,7 @@ place_of ImpossibleTimes = 0
 place_of FactsLength = 0
 place_of NumberOutOfRange = 0
 place_of (CertificateFails node) = node
+
+-- Rule 14.3, without the line's end: as in `refused 9 at 2`.
+abbrev pub refusal_text : Refusal → List ℕ
+refusal_text refusal = codes "refused " ++ decimal (number_of refusal) ++ codes " at " ++ decimal (place_of refusal)

@@ -4,8 +4,11 @@
 ghost use Rattle.std.specs.Prelude.{◌≡◌};
 ghost use Rattle.refusals.specs.Refusals.{number_of, place_of};
 
+use std::error::Error;
+use std::fmt;
+
 // The refusals in the order of rules 11.1 to 11.18 and 11.23 to 11.25; those that are a node's fault carry the node. 19 to 22 are given by nothing yet.
-#[derive(Clone, Copy)]
+#[derive(Clone, Copy, Debug, PartialEq, Eq)]
 pub enum Refusal {
     TooShort,
     Edition,
@@ -65,27 +68,26 @@ impl Refusal {
         ensures { result ≡ place_of self }
     {
         match self {
-            Refusal::TooShort => 0,
-            Refusal::Edition => 0,
-            Refusal::CacheShape => 0,
-            Refusal::StartCode => 0,
-            Refusal::NodeCount => 0,
-            Refusal::EntryNode => 0,
-            Refusal::SpareBits => 0,
-            Refusal::Length => 0,
             Refusal::BrokenRecord(node) => node,
             Refusal::TooManyBlocks(node) => node,
-            Refusal::ShortBuffer => 0,
-            Refusal::Unsettled => 0,
-            Refusal::NotPassing => 0,
-            Refusal::BoundsLength => 0,
-            Refusal::MissBelowHit => 0,
             Refusal::FloorAboveCeiling(node) => node,
             Refusal::FloorAtUnmarked(node) => node,
-            Refusal::ImpossibleTimes => 0,
-            Refusal::FactsLength => 0,
-            Refusal::NumberOutOfRange => 0,
             Refusal::CertificateFails(node) => node,
+            _ => 0,
         }
     }
 }
+
+// Rule 14.3: as in `refused 9 at 2`.
+impl fmt::Display for Refusal {
+    ghost use Rattle.std.specs.Prelude.{Some};
+    ghost use Rattle.refusals.specs.Refusals.{refusal_text};
+
+    ghost output = { λ refusal. Some (refusal_text refusal) };
+
+    fn fmt<W: fmt::Write>(&self, f: &mut fmt::Formatter<W>) -> fmt::Result {
+        write!(f, "refused {} at {}", self.number(), self.place())
+    }
+}
+
+impl Error for Refusal {}

@@ -1,15 +1,14 @@
--- Laws of words put into a buffer, one after the other, and of a word that is put byte by byte.
-use mathlib.Core.List.{List, [], ◌∷◌, ◌++◌}
-use mathlib.Core.Path.{◌≡◌, refl, ap, subst, ◌∙◌}
-use Prim.Native.Nat.{ℕ, suc, ◌+◌, ◌≤◌, ◌<◌}
+-- Laws of words put into a line, one after the other.
+use mathlib.Core.List.{List, [], ◌∷◌, ◌++◌, append_assoc}
+use mathlib.Core.Path.{◌≡◌, refl, sym, ap, subst, ◌∙◌}
+use Prim.Native.Nat.{ℕ, suc, ◌+◌, ◌-◌, ◌≤◌}
 use native.Mathlib.Nat.{add-zero}
-use native.Mathlib.Numerals.{add-one}
 use native.Mathlib.Omega.{arith}
-use lib.ListN.{length, get_or, set, take, length-append}
-use lib.Seq.{sets, take-suc, length-take-le, take-length}
+use lib.ListN.{length, set, take, drop, length-append}
+use borrow.Rule.Slice.PartMut.{put_mid}
+use lib.Seq.{sets, sets-eq, drop-drop}
+use Rattle.report.specs.declared.puts.Line.{Line}
 use Rattle.report.specs.Written.{Put}
-
--- ---- one after the other
 
 sets-append : (l : List ℕ) (i : ℕ) (v w : List ℕ) → sets l i (v ++ w) ≡ sets (sets l i v) (i + length v) w
 sets-append l i [] w = rw add-zero
@@ -17,35 +16,31 @@ sets-append l i (a ∷ v) w =
     let e : i + suc (length v) ≡ suc i + length v = omega arith in
     rw e (sets-append (set l i a) (suc i) v w)
 
-pub put_then : {j k at mid next : ℕ} {before between after v w : List ℕ} → Put j before at v between mid → Put k between mid w after next → Put (j + k) before at (v ++ w) after next
-put_then {j} {k} {at} {mid} {next} {before} {between} {after} {v} {w} p q =
+pub put_then : {j k : ℕ} {before between after : Line} {v w : List ℕ} → Put j before v between → Put k between w after → Put (j + k) before (v ++ w) after
+put_then {j} {k} {before} {between} {after} {v} {w} p q =
     record {
       laid = rw (sets-append, ← p.laid, ← p.behind) q.laid;
-      behind = omega (arith, length-append v w);
-      within = omega (arith, length-append v w);
+      behind = omega (arith, p.behind, q.behind, length-append v w);
+      within = omega (arith, p.within, q.within, length-append v w);
+      same = q.same ∙ p.same;
+      long = q.long ∙ p.long;
     }
 
 -- Where there is more room than was said; and the same word said otherwise.
-pub put-wide : {j k at next : ℕ} {before after w : List ℕ} → Put j before at w after next → j ≤ k → Put k before at w after next
-put-wide p h = record { laid = p.laid; behind = p.behind; within = omega arith }
+pub put-wide : {j k : ℕ} {before after : Line} {w : List ℕ} → Put j before w after → j ≤ k → Put k before w after
+put-wide p h = record { laid = p.laid; behind = p.behind; within = omega (arith, p.within); same = p.same; long = p.long }
 
-pub put_same : {j at next : ℕ} {before after v w : List ℕ} → Put j before at v after next → v ≡ w → Put j before at w after next
-put_same {j} {at} {next} {before} {after} p e = subst (λ (word : List ℕ). Put j before at word after next) e p
+pub put_same : {j : ℕ} {before after : Line} {v w : List ℕ} → Put j before v after → v ≡ w → Put j before w after
+put_same {j} {before} {after} p e = subst (λ (word : List ℕ). Put j before word after) e p
 
-pub put-nothing : (at : ℕ) (text : List ℕ) → Put 0 text at [] text at
-put-nothing at text = record { laid = refl; behind = omega arith; within = omega arith }
+pub put-nothing : (line : Line) → Put 0 line [] line
+put-nothing line = record { laid = refl; behind = omega arith; within = omega arith; same = refl; long = refl }
 
--- ---- a word, byte by byte
-
--- The first i bytes of a word are put; then one more is.
-pub word-turn : (text word now : List ℕ) (at i : ℕ) → i < length word → now ≡ sets text at (take i word) → set now (at + i) (get_or word i 0) ≡ sets text at (take (i + 1) word)
-word-turn text word now at i h e =
-    rw (e, add-one, take-suc word i 0 h, sets-append, length-take-le i word (omega arith))
-
-pub word-put : (text word now : List ℕ) (at i : ℕ) → i ≡ length word → now ≡ sets text at (take i word) → Put (length word) text at word now (at + length word)
-word-put text word now at i h e =
-    record {
-      laid = e ∙ ap (λ (k : ℕ). sets text at (take k word)) h ∙ ap (sets text at) (take-length word);
-      behind = refl;
-      within = omega arith;
-    }
+-- A word that is copied to its place.
+pub word-copied : (text word copied : List ℕ) (at : ℕ) → at + length word ≤ length text → copied ≡ word → put_mid at (at + length word - at) text copied ≡ sets text at word
+word-copied text word copied at h e =
+    let long : at + length word - at ≡ length word = omega arith in
+    (λ i. take at text ++ (e i ++ drop (long i) (drop at text)))
+    ∙ ap (λ (rest : List ℕ). take at text ++ (word ++ rest)) (drop-drop (length word) at text)
+    ∙ sym (append_assoc (take at text) word (drop (at + length word) text))
+    ∙ sym (sets-eq word text at h)

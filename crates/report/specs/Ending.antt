@@ -1,17 +1,15 @@
 -- How the program ends: rules 13.3 and 14.3, as the number that its exit status is to be. Whether all was written is given; how the program tells the number
 -- no definition says (docs/DECISIONS.md, "Report and program").
-use Rattle.std.specs.Prelude.{ℕ, Bool, true, false, cond, List}
+use Rattle.std.specs.Prelude.{ℕ, Bool, cond, List, Result, is_err}
 use Rattle.chart.specs.Geometry.{most_nodes, most_blocks, all_passes}
-use Rattle.analysis.specs.declared.Analysed.{Analysed}
-use Rattle.analysis.specs.declared.Analysed.TheVariants.{Settled, Unsettled, Refused}
 use Rattle.analysis.specs.Analysis.{analysed}
 use Rattle.report.specs.Report.{taken, zero_buffers}
+use Rattle.analysis.specs.declared.Unanalysed.{Unanalysed}
+use Rattle.analysis.specs.declared.SettledAfter.{SettledAfter}
 
 -- Rules 13.3 and 14.3: whether an answer is a refusal, so that its report is one line.
-abbrev pub refused_by : Analysed → Bool
-refused_by (Settled passes blocks) = false
-refused_by (Unsettled allowance blocks) = true
-refused_by (Refused refusal) = true
+abbrev pub refused_by : Result SettledAfter Unanalysed → Bool
+refused_by answer = is_err answer
 
 -- Rule 13.3: whether an input is refused.
 unfoldable pub refuses : List ℕ → Bool

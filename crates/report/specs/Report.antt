@@ -1,18 +1,17 @@
 -- What the program prints for any input. Rules 1.4, 13.1, 13.2 and 14.1 to 14.3. A class above 5, which the analysis never writes, reads as none. The
 -- analysis gets buffers of the program's own, zeros with room for the largest chart; so a report never says 11. How the input is read is not said here.
-use Rattle.std.specs.Prelude.{ℕ, ◌+◌, ◌*◌, List, [], ◌∷◌, ◌++◌, get_or, replicate, take, eqb}
+use Rattle.std.specs.Prelude.{ℕ, ◌+◌, ◌*◌, List, [], ◌∷◌, ◌++◌, get_or, replicate, take, eqb, Result, Ok, Err}
 use Rattle.lists.specs.Choice.{◌⇒◌, first_case}
 use Rattle.lists.specs.Lists.{list_of, joined}
 use Rattle.chart.specs.Geometry.{most_nodes, most_blocks, most_touches, longest_chart, all_passes}
 use Rattle.chart.specs.Header.{header_in}
 use Rattle.refusals.specs.declared.Refusal.{Refusal}
-use Rattle.refusals.specs.declared.Refusal.TheVariants as refusals
 use Rattle.refusals.specs.Refusals.{number_of, place_of}
-use Rattle.analysis.specs.declared.Analysed.{Analysed}
-use Rattle.analysis.specs.declared.Analysed.TheVariants.{Settled, Unsettled, Refused}
-use Rattle.analysis.specs.Analysis.{Buffers, Left, analysed}
+use Rattle.analysis.specs.Analysis.{Buffers, Left, refusal_of, analysed}
 use Rattle.classes.specs.Class.{unreached, hit, miss, unsure, kept}
 use Rattle.report.specs.Text.{line_feed, space, nodes_word, blocks_word, passes_word, unreached_word, hit_word, miss_word, unsure_word, kept_word, none_word, refused_word, at_word, decimal}
+use Rattle.analysis.specs.declared.Unanalysed.{Unanalysed}
+use Rattle.analysis.specs.declared.SettledAfter.{SettledAfter}
 
 -- Rules 1.4 and 13.1: as many bytes as the longest chart has, and one more.
 abbrev pub taken : List ℕ → List ℕ
@@ -45,13 +44,12 @@ refusal_line refusal =
     refused_word ++ space ++ decimal (number_of refusal) ++ space ++ at_word ++ space ++ decimal (place_of refusal) ++ line_feed
 
 -- Rules 14.1 to 14.3: the first line and the nodes' lines, or the line of a refusal.
-abbrev pub report_of : ℕ → List ℕ → Analysed → List ℕ
-report_of nodes classes (Settled passes blocks) =
-    nodes_word ++ space ++ decimal nodes ++ space ++ blocks_word ++ space ++ decimal blocks ++ space
-    ++ passes_word ++ space ++ decimal passes ++ line_feed
+abbrev pub report_of : ℕ → List ℕ → Result SettledAfter Unanalysed → List ℕ
+report_of nodes classes (Ok done) =
+    nodes_word ++ space ++ decimal nodes ++ space ++ blocks_word ++ space ++ decimal done.blocks ++ space
+    ++ passes_word ++ space ++ decimal done.passes ++ line_feed
     ++ joined (list_of nodes (node_line classes))
-report_of nodes classes (Unsettled allowance blocks) = refusal_line refusals.Unsettled
-report_of nodes classes (Refused refusal) = refusal_line refusal
+report_of nodes classes (Err error) = refusal_line (refusal_of error)
 
 -- The program's own buffers, of zeros, for a chart of so many nodes and blocks.
 abbrev pub zero_buffers : ℕ → ℕ → Buffers

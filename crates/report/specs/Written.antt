@@ -1,15 +1,16 @@
 -- A text in an array of fixed size, and what the crate's inner functions promise of a text that is being written. Nothing here is a rule of the
 -- tool: it is how a report, which rules 14.1 to 14.4 say, comes to those who print it.
-use Rattle.std.specs.Prelude.{Bool, List, ◌≡◌, ℕ, ◌+◌, ◌*◌, ◌≤◌, length}
+use Rattle.std.specs.Prelude.{Bool, List, ◌≡◌, ℕ, ◌+◌, ◌*◌, ◌≤◌, length, Err, Ok, Result}
 use Rattle.std.proofs.lemmas.List.Edits.{sets}
 use Rattle.lists.specs.Lists.{padded}
 use Rattle.chart.specs.Geometry.{most_nodes}
-use Rattle.chart.specs.declared.headers.HeaderRead.{HeaderRead}
-use Rattle.chart.specs.declared.headers.HeaderRead.TheVariants.{Accepted, Refused}
 use Rattle.analysis.specs.Analysis.{Left}
+use Rattle.report.specs.declared.puts.Line.{Line}
 use Rattle.report.specs.declared.text.Text.{Text}
 use Rattle.report.specs.Report.{report_left}
 use Rattle.report.specs.Ending.{refused_by}
+use Rattle.chart.specs.declared.headers.Header.{Header}
+use Rattle.refusals.specs.declared.Refusal.{Refusal}
 
 -- The most digits of a number, and the most letters of a class.
 abbrev pub most_digits : ℕ
@@ -48,12 +49,15 @@ abbrev pub text_left : List ℕ → Left → Text
 text_left bytes left = text_of (report_left bytes left) (refused_by left.answer)
 
 -- The nodes of an accepted header, and 0 for a refusal.
-abbrev pub nodes_read : HeaderRead → ℕ
-nodes_read (Accepted header) = header.nodes
-nodes_read (Refused refusal) = 0
+abbrev pub nodes_read : Result Header Refusal → ℕ
+nodes_read (Ok header) = header.nodes
+nodes_read (Err refusal) = 0
 
--- `word` put into `before` from place `at` on: what stands there after it, and the place behind it, which is at most `room` further.
-pub record Put (room : ℕ) (before : List ℕ) (at : ℕ) (word after : List ℕ) (next : ℕ) : Type 0 where
-  pub laid : after ≡ sets before at word
-  pub behind : next ≡ at + length word
+-- `word` put behind what is written of a line: what stands in its buffer after it, how much is written then, which is at most `room` more; and that it
+-- is the same buffer, as long as before.
+pub record Put (room : ℕ) (before : Line) (word : List ℕ) (after : Line) : Type 0 where
+  pub laid : after.text.now ≡ sets before.text.now before.size word
+  pub behind : after.size ≡ before.size + length word
   pub within : length word ≤ room
+  pub same : after.text.ghost_name ≡ before.text.ghost_name
+  pub long : length after.text.now ≡ length before.text.now

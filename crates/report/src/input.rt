@@ -9,7 +9,7 @@ ghost use Rattle.report.specs.Ending.{refuses};
 ghost use Rattle.report.specs.Written.{most_text, text_of, text_left, nodes_read};
 
 use crate::text::{Text, written};
-use chart::{Geometry, HeaderRead};
+use chart::Geometry;
 
 // The bytes of the longest chart, and one more, which tells a longer input from it.
 pub const TAKEN: usize = Geometry::LONGEST + 1;
@@ -18,11 +18,7 @@ pub const TAKEN: usize = Geometry::LONGEST + 1;
 fn nodes_of(chart: &[u8]) -> usize
     ensures { (result ≤ most_nodes) × (result ≡ nodes_read (header_read chart.now)) }
 {
-    let read = chart::read_header(chart);
-    match read {
-        HeaderRead::Accepted(header) => header.nodes,
-        HeaderRead::Refused(_) => 0,
-    }
+    chart::read_header(chart).map_or(0, |header| header.nodes)
 }
 
 // The report of any bytes, analysed in buffers of zeros for the largest chart.
@@ -53,9 +49,6 @@ pub fn report(input: &[u8]) -> Text
     ensures value { result ≡ text_of (defined input.now) (refuses input.now) }
     ensures size_le_most_text { result.size ≤ most_text }
 {
-    let size = input.len();
-    if size <= TAKEN {
-        return report_bytes(input);
-    }
-    report_bytes(&input[..TAKEN])
+    let taken = TAKEN.min(input.len());
+    report_bytes(&input[..taken])
 }

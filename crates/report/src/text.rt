@@ -6,11 +6,9 @@ ghost use Rattle.report.specs.Report.{report_of};
 ghost use Rattle.report.specs.Ending.{refused_by};
 ghost use Rattle.report.specs.Written.{most_text, text_of};
 
-use crate::endings::refused_by;
-use crate::lines::{put_refused, put_settled};
-use analysis::Analysed;
+use crate::puts::Line;
+use analysis::{SettledAfter, Unanalysed};
 use chart::Geometry;
-use refusals::Refusal;
 
 // The text stands at the start of the array, zeros after it.
 #[derive(Drop)]
@@ -35,27 +33,27 @@ impl Text {
 }
 
 // Answers the report of an analysis that gave this answer and these classes for a chart of so many nodes; after a refusal only the answer counts.
-pub(crate) fn written(nodes: usize, classes: &[u8], answer: Analysed) -> Text
+pub(crate) fn written(
+    nodes: usize,
+    classes: &[u8],
+    answer: Result<SettledAfter, Unanalysed>,
+) -> Text
     requires nodes_le_most_nodes { nodes ≤ most_nodes }
     requires nodes_in_bounds { most_touches * nodes ≤ length classes.now }
     ensures value { result ≡ text_of (report_of nodes classes.now answer) (refused_by answer) }
     ensures size_le_most_text { result.size ≤ most_text }
 {
-    let refused = refused_by(answer);
+    let refused = answer.is_err();
     let mut bytes = [0u8; Text::MOST];
-    let size = match answer {
-        Analysed::Settled { passes, blocks } => put_settled(
-            &mut bytes, nodes, classes, passes, blocks,
-        ),
-        Analysed::Unsettled {
-            allowance: _,
-            blocks: _,
-        } => put_refused(&mut bytes, Refusal::Unsettled),
-        Analysed::Refused(refusal) => put_refused(&mut bytes, refusal),
+    let mut line = Line {
+        text: &mut bytes,
+        size: 0,
     };
+    line.put_report(nodes, classes, answer);
+    let size = line.size;
     Text {
-        bytes: bytes,
-        size: size,
-        refused: refused,
+        bytes,
+        size,
+        refused,
     }
 }

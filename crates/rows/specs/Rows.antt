@@ -1,14 +1,14 @@
 -- A row as it is held by value, and what a record makes of ages. Rules 3.3 and 6.5; rules 6.3 and 6.4 come in by the definitions of `cache`. A row
 -- has `most_blocks` places, the first of them for the chart's blocks: no answer depends on the rest.
 -- What else is here inner functions promise one another.
-use Rattle.std.specs.Prelude.{ℕ, ◌+◌, ◌*◌, ◌<◌, List, ◌≡◌, get_or}
+use Rattle.std.specs.Prelude.{ℕ, ◌+◌, ◌*◌, ◌<◌, List, ◌≡◌, get_or, Option}
 use Rattle.chart.specs.Geometry.{most_blocks}
 use Rattle.cache.specs.Ages.{Columns, Ages, age_of, must_after, may_after}
 use Rattle.flow.specs.Walk.{in_turn}
 use Rattle.ages.specs.Plan.{touch_column}
-use Rattle.plan.specs.declared.PlannedRecord.{PlannedRecord}
 use Rattle.plan.specs.Listed.{touches_by}
 use Rattle.rows.specs.declared.Row.{Row}
+use Rattle.plan.specs.declared.ColumnTouches.{ColumnTouches}
 
 -- The key and the may limit of a column as they stand in a flat list, and so many columns.
 abbrev pub key_by : List ℕ → ℕ → ℕ
@@ -41,7 +41,7 @@ abbrev pub exit_ages : List ℕ → List ℕ → Ages
 exit_ages must may = record { must = must; may = may }
 
 -- Rules 3.3 and 6.5: the touches in turn, each as rules 6.3 and 6.4 say; a bare step has none and changes no age.
-abbrev pub after_record : Columns → PlannedRecord → Ages → Ages
+abbrev pub after_record : Columns → Option ColumnTouches → Ages → Ages
 after_record columns planned a = in_turn (touch_column columns) (touches_by planned) a
 
 -- The age in a column of a row that begins at `base`.

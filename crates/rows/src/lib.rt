@@ -3,7 +3,7 @@
 // that what is touched is one of them.
 #![tactic(auto)]
 
-ghost use Rattle.std.specs.Prelude.{◌≡◌, suc, ◌+◌, ◌*◌, ◌≤◌, ◌<◌, min, cond, length};
+ghost use Rattle.std.specs.Prelude.{◌≡◌, ◌+◌, ◌*◌, ◌≤◌, ◌<◌, cond, length};
 ghost use Rattle.chart.specs.Geometry.{most_blocks};
 ghost use Rattle.cache.specs.Ages.{must_grown, may_grown, start_ages};
 ghost use Rattle.rows.specs.Rows.{columns_by, as_row, entry_ages, exit_ages, TouchedFrom};
@@ -18,37 +18,20 @@ pub struct Row {
 }
 
 // The must age of another block after a touch of a block of age `h` (rule 6.3); `same`: they are of one set.
+#[tactic(auto, unfolding(cache::specs::Ages::must_grown))]
 pub fn must_age(same: bool, h: u8, age: u8) -> u8
     ensures { result ≡ cond same (must_grown h age) age }
 {
-    if same {
-        if age < h {
-            return age + 1;
-        }
-    }
-    age
-}
-
-// The smaller of two ages.
-pub fn smaller_of(a: u8, b: u8) -> u8
-    ensures { result ≡ min a b }
-{
-    if b < a { b } else { a }
-}
-
-// One more, as far as a byte goes: one instruction for sixteen ages.
-fn one_more(age: u8) -> u8
-    ensures { result ≡ min 255 (suc age) }
-{
-    if age == 255 { 255 } else { age + 1 }
+    if same && age < h { age + 1 } else { age }
 }
 
 // The may age of another block after a touch of a block of age `h` (rule 6.4); `same`: they are of one set. What it may grow to is worked out in
-// any case, so that nothing is read in one case alone.
+// any case, so that nothing is read in one case alone: two instructions for sixteen ages.
+#[tactic(auto, unfolding(cache::specs::Ages::may_grown))]
 pub fn may_age(limit: u8, same: bool, h: u8, age: u8) -> u8
     ensures { result ≡ cond same (may_grown limit h age) age }
 {
-    let grown = smaller_of(limit, one_more(age));
+    let grown = limit.min(age.saturating_add(1));
     if same & (age <= h) { grown } else { age }
 }
 
@@ -68,7 +51,8 @@ fn byte_of(column: usize) -> u8
 }
 
 // Makes two lists begin with the ages of a row that begins at `base`, after a touch of the block in column m. `width` places are worked out, all
-// alike and in one loop: no store behind it stands between the loop and what reads the lists next.
+// alike and in one loop: no store behind it stands between the loop and what reads the lists next. The loop goes by the place's number: it is compared
+// with m too, and of the six lists that it goes along three begin elsewhere.
 pub fn touch(
     must: &[u8],
     may: &[u8],
@@ -103,21 +87,12 @@ impl Row {
         requires { 3 * most_blocks ≤ length columns.now }
         ensures { result ≡ as_row (start_ages (columns_by columns.now most_blocks) empty) }
     {
-        let mut row = Row {
-            must: [0u8; Geometry::BLOCKS],
-            may: [0u8; Geometry::BLOCKS],
-        };
-        for j in 0..Geometry::BLOCKS {
-            row.must[j] = columns[plan::MUST_LIMITS + j];
-            row.may[j] = start_age(empty, columns[plan::MAY_LIMITS + j]);
+        let mut must = [0; Geometry::BLOCKS];
+        let mut may = [0; Geometry::BLOCKS];
+        must.copy_from_slice(&columns[plan::MUST_LIMITS..plan::MUST_LIMITS + Geometry::BLOCKS]);
+        if empty {
+            may.copy_from_slice(&columns[plan::MAY_LIMITS..plan::MAY_LIMITS + Geometry::BLOCKS]);
         }
-        row
+        Row { must, may }
     }
-}
-
-// The may age at the start of a block with this limit.
-fn start_age(empty: bool, limit: u8) -> u8
-    ensures { result ≡ cond empty limit 0 }
-{
-    if empty { limit } else { 0 }
 }

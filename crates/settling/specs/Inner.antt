@@ -1,17 +1,14 @@
 -- What passes over lent tables promise: the buffers hold, at each point, the table that `flow` defines. Nothing here is a rule of the tool:
 -- rules 9.1 to 9.5 are in `flow`.
-use Rattle.std.specs.Prelude.{ℕ, ◌*◌, ◌≤◌, Bool, true, false, cond, ◌≡◌, List, [], ◌∷◌, length}
+use Rattle.std.specs.Prelude.{ℕ, ◌*◌, ◌≤◌, Bool, true, false, cond, ◌≡◌, List, [], ◌∷◌, length, None, Option, Some}
 use Rattle.bits.specs.Bits.{is_member, with_member}
 use Rattle.cache.specs.Ages.{Ages}
 use Rattle.flow.specs.Pass.{Outcome, settled, spent, take_node, take_nodes, pass, before, after_passes, settle}
 use Rattle.flow.specs.Working.{Working}
 use Rattle.ages.specs.Plan.{Plan, plan_flow}
-use Rattle.plan.specs.Listed.{plan_in}
 use Rattle.tables.specs.Lent.{Lent, table_of, over}
 use Rattle.tables.specs.Inner.{LentRun, over_run, run_in, met_into}
 use Rattle.tables.specs.Contract.{lent_table, entry_table, exit_table}
-use Rattle.settling.specs.declared.settling.Settling.{Settling}
-use Rattle.settling.specs.declared.settling.Settling.TheVariants.{Settled, Spent}
 
 -- What a pass works on: a lent table, whether anything has changed, and the set of the nodes that are due.
 pub record DueRun : Type 0 where
@@ -69,11 +66,11 @@ pub record PassedIn (plan : Plan) (lent : Lent) (after : DueRun) : Type 0 where
   pub working : Working (plan_flow plan) (table_of plan after.lent) (is_member after.due)
 
 -- The same of slices, as a `requires` and an `ensures` name them.
-abbrev pub BegunIn : List ℕ → List ℕ → List ℕ → List ℕ → List ℕ → Type 0
-BegunIn columns plan must may marks = Begun (plan_in columns plan) (lent_table must may marks)
+abbrev pub BegunIn : Plan → List ℕ → List ℕ → List ℕ → Type 0
+BegunIn plan must may marks = Begun plan (lent_table must may marks)
 
-abbrev pub StandsIn : List ℕ → List ℕ → ℕ → List ℕ → List ℕ → List ℕ → List ℕ → Type 0
-StandsIn columns plan n must may marks due = StandsAt (plan_in columns plan) n (lent_table must may marks) due
+abbrev pub StandsIn : Plan → ℕ → List ℕ → List ℕ → List ℕ → List ℕ → Type 0
+StandsIn plan n must may marks due = StandsAt plan n (lent_table must may marks) due
 
 abbrev pub entry_due : List ℕ → List ℕ → List ℕ → List ℕ → Bool → DueRun
 entry_due must may marks due changed = record { lent = entry_table must may marks; changed = changed; due = due }
@@ -86,15 +83,15 @@ abbrev pub SetFor : ℕ → List ℕ → Type 0
 SetFor nodes due = nodes ≤ 64 * length due
 
 -- How many passes have been made, and what that tells of settling.
-abbrev pub passes_made : ℕ → Settling → ℕ
-passes_made allowance (Settled passes) = passes
-passes_made allowance Spent = allowance
+abbrev pub passes_made : ℕ → Option ℕ → ℕ
+passes_made allowance (Some passes) = passes
+passes_made allowance None = allowance
 
-abbrev pub outcome_of : Plan → Settling → Outcome Ages
-outcome_of plan (Settled passes) = settled passes (after_passes (plan_flow plan) passes)
-outcome_of plan Spent = spent
+abbrev pub outcome_of : Plan → Option ℕ → Outcome Ages
+outcome_of plan (Some passes) = settled passes (after_passes (plan_flow plan) passes)
+outcome_of plan None = spent
 
 -- What settling answers and leaves: the outcome that is defined, and the table after as many passes as were made.
-pub record SettledIn (plan : Plan) (allowance : ℕ) (lent : Lent) (answer : Settling) (left : Lent) : Type 0 where
+pub record SettledIn (plan : Plan) (allowance : ℕ) (lent : Lent) (answer : Option ℕ) (left : Lent) : Type 0 where
   pub answered : outcome_of plan answer ≡ settle (plan_flow plan) allowance
   pub table : left ≡ over plan (after_passes (plan_flow plan) (passes_made allowance answer)) lent

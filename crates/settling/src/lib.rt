@@ -7,4 +7,4 @@
 mod settling;
 mod taking;
 
-pub use settling::{Settling, pass, settle};
+pub use settling::{pass, settle};

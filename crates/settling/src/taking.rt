@@ -4,13 +4,15 @@
 ghost use Rattle.std.specs.Prelude.{true, ◌≡◌, ◌≤◌, ◌<◌, length};
 ghost use Rattle.bits.specs.Bits.{is_member};
 ghost use Rattle.chart.specs.Record.{arrows_of, Leads};
-ghost use Rattle.plan.specs.Listed.{nodes_in, DrawnIn, plan_at};
+ghost use Rattle.plan.specs.Listed.{nodes_in};
+ghost use Rattle.plan.specs.AsPlan.{drawn_as};
 ghost use Rattle.tables.specs.Inner.{Roomy};
 ghost use Rattle.rows.specs.Rows.{entry_ages};
 ghost use Rattle.tables.specs.Contract.{RoomFor};
 ghost use Rattle.settling.specs.Inner.{sent_to, sent_all, StandsIn, TakenIn, SetFor, entry_due, exit_due};
 
 use chart::{Geometry, Targets};
+use plan::DrawnPlan;
 
 // Meets ages into the row of node t. Where that changes anything, t is due. Answers true if `changed` was, or if there was a change.
 fn send_to<'a>(
@@ -76,8 +78,7 @@ fn send_row<'a>(
 // Takes node n, which is due: its state after its record is worked out once and met into its targets. It is no longer due before it sends: where an
 // arrow leads back to it and brings a change, it is due again. Answers true if `changed` was, or if there was a change.
 pub(crate) fn take_node(
-    columns: &[u8],
-    plan: &[u16],
+    plan: DrawnPlan,
     must: &mut [u8],
     may: &mut [u8],
     marks: &mut [u8],
@@ -85,22 +86,28 @@ pub(crate) fn take_node(
     n: usize,
     changed: bool,
 ) -> bool
-    requires drawn_in { DrawnIn columns plan }
-    requires room_for { RoomFor plan.now must.old may.old marks.old × SetFor (nodes_in plan.now) due.old }
-    requires stands_in { StandsIn columns.now plan.now n must.old may.old marks.old due.old }
-    requires n_bound { (n < nodes_in plan.now) × (is_member due.old n ≡ true) }
-    ensures { TakenIn (plan_at columns plan) n (entry_due must.old may.old marks.old due.old changed) (exit_due must.new may.new marks.new due.new result) }
+    requires room_for { RoomFor plan.numbers.now must.old may.old marks.old × SetFor (nodes_in plan.numbers.now) due.old }
+    requires stands_in { StandsIn (drawn_as plan) n must.old may.old marks.old due.old }
+    requires n_bound { (n < nodes_in plan.numbers.now) × (is_member due.old n ≡ true) }
+    ensures { TakenIn (drawn_as plan.entry) n (entry_due must.old may.old marks.old due.old changed) (exit_due must.new may.new marks.new due.new result) }
 {
     bits::take_out(due, n);
-    let nodes = plan::nodes_in(plan);
-    let blocks = plan::blocks_in(plan);
-    let node = plan::node_in(plan, n);
+    let nodes = plan.nodes();
+    let blocks = plan.blocks();
+    let node = plan.node(n);
     let planned = node.what;
     let targets = node.targets;
     let mut musts = [0u8; Geometry::BLOCKS];
     let mut mays = [0u8; Geometry::BLOCKS];
     tables::row_after(
-        must, may, columns, blocks, n, planned, &mut musts, &mut mays,
+        must,
+        may,
+        plan.columns,
+        blocks,
+        n,
+        planned,
+        &mut musts,
+        &mut mays,
     );
     send_row(
         must, may, marks, due, nodes, blocks, targets, &musts, &mays, changed,

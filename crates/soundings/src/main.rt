@@ -13,49 +13,41 @@ use crate::demanded::{
 use crate::sounding::{
     are_bytes, loop_checked, loop_judged, loop_totals, three_kinds, written_node,
 };
-use chart::{Node, Record};
-use checker::Checked;
+use chart::{Node, Reference};
 use deadline::Judged;
 use refusals::Refusal;
 use std::io;
 use totals::Totals;
 
-// Writes a refusal, as `refused 9 at 2`.
-fn print_refusal(rt: &impl Print, refusal: Refusal) -> io::Result<()> {
-    let number = refusal.number();
-    let place = refusal.place();
-    println!(rt; "refused {number} at {place}")
-}
-
 // Writes what the checker answered.
-fn print_checked(rt: &impl Print, answer: Checked) -> io::Result<()> {
+fn print_checked(rt: &impl Print, answer: Result<bool, Refusal>) -> io::Result<()> {
     match answer {
-        Checked::Yes => println!(rt; "the checker passes the table"),
-        Checked::No => println!(rt; "the checker fails the table"),
-        Checked::Refused(refusal) => print_refusal(rt, refusal),
+        Ok(true) => println!(rt; "the checker passes the table"),
+        Ok(false) => println!(rt; "the checker fails the table"),
+        Err(refusal) => println!(rt; "{refusal}"),
     }
 }
 
 // Writes what the totals answered, as `low 2 high 20`.
-fn print_totals(rt: &impl Print, answer: Totals) -> io::Result<()> {
+fn print_totals(rt: &impl Print, answer: Result<Totals, Refusal>) -> io::Result<()> {
     match answer {
-        Totals::Between { low, high } => println!(rt; "low {low} high {high}"),
-        Totals::Refused(refusal) => print_refusal(rt, refusal),
+        Ok(Totals { low, high }) => println!(rt; "low {low} high {high}"),
+        Err(refusal) => println!(rt; "{refusal}"),
     }
 }
 
 // Writes what was answered for a deadline.
-fn print_judged(rt: &impl Print, answer: Judged) -> io::Result<()> {
+fn print_judged(rt: &impl Print, answer: Result<Judged, Refusal>) -> io::Result<()> {
     match answer {
-        Judged::Met { low: _, high: _ } => println!(rt; "the deadline is met"),
-        Judged::NotMet { low: _, high: _ } => println!(rt; "the deadline is not met"),
-        Judged::Refused(refusal) => print_refusal(rt, refusal),
+        Ok(judged) if judged.met => println!(rt; "the deadline is met"),
+        Ok(_) => println!(rt; "the deadline is not met"),
+        Err(refusal) => println!(rt; "{refusal}"),
     }
 }
 
 // Writes what a record does, as `writes 64 to 67`.
-fn print_record(rt: &impl Print, what: Record) -> io::Result<()> {
-    let Record::Reference(reference) = what else {
+fn print_record(rt: &impl Print, what: Option<Reference>) -> io::Result<()> {
+    let Some(reference) = what else {
         return print!(rt; "step");
     };
     let address = reference.address;
@@ -68,7 +60,7 @@ fn print_record(rt: &impl Print, what: Record) -> io::Result<()> {
 }
 
 // Writes a node, as `writes 64 to 67, 1 arrows, first 2, second 0`.
-fn print_node(rt: &impl Print, node: Node) -> io::Result<()> {
+fn print_node(rt: &impl Print, node: Node<Reference>) -> io::Result<()> {
     let what = node.what;
     let targets = node.targets;
     print_record(rt, what)?;

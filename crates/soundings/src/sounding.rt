@@ -1,21 +1,20 @@
 // The sounding of the totals, through the code: the loop of docs/RULES.md, its table, its totals at 1 for a hit and 10 for a miss, and a deadline.
 // Beside it a record that writes, and that every slice of bytes has numbers below 256. Each function promises what it answers; none refuses.
-ghost use Rattle.std.specs.Prelude.{◌≡◌, [], ◌∷◌, ◌<◌};
+ghost use Rattle.std.specs.Prelude.{◌≡◌, [], ◌∷◌, ◌<◌, true};
 ghost use Rattle.analysis.specs.Analysis.{table_in};
-ghost use Rattle.checker.specs.declared.Checked.TheVariants.{Yes};
-ghost use Rattle.totals.specs.declared.Totals.TheVariants.{Between};
-ghost use Rattle.deadline.specs.declared.Judged.TheVariants.{Met};
 ghost use Rattle.clock.specs.Sounded.{number};
 ghost use Rattle.demands.specs.Timely.{least, most};
 ghost use Rattle.chart.specs.Bytes.{AreBytes};
 ghost use Rattle.chart.specs.Sounded.{three_kinds, node_out};
 ghost use Rattle.demands.specs.Charts.{loop_chart};
 ghost use Rattle.demands.specs.Soundings.{after};
+ghost use Rattle.deadline.specs.Deadline.{judged_with};
+ghost use Rattle.totals.specs.Totals.{totals_between};
 
-use chart::{Geometry, Node};
-use checker::Checked;
+use chart::{Geometry, Node, Reference};
 use clock::{ClockSheet, Deadline};
 use deadline::Judged;
+use refusals::Refusal;
 use totals::Totals;
 
 // The loop chart's table, with room for its three nodes and for two blocks.
@@ -46,7 +45,7 @@ fn loop_table() -> Table
     let mut may = [0u8; 6];
     let mut marks = [0u8; 3];
     let mut classes = [0u8; 6];
-    analysis::analyse(
+    let _ = analysis::analyse(
         &chart,
         Geometry::PASSES,
         &mut blocks,
@@ -63,8 +62,8 @@ fn loop_table() -> Table
 }
 
 // What the checker answers for that table.
-pub(crate) fn loop_checked() -> Checked
-    ensures { result ≡ Yes }
+pub(crate) fn loop_checked() -> Result<bool, Refusal>
+    ensures { result ≡ (Ok true) }
 {
     let chart = loop_chart();
     let table = loop_table();
@@ -75,8 +74,8 @@ pub(crate) fn loop_checked() -> Checked
 }
 
 // What the totals answer for that table and the sounding's costs, floors and ceilings.
-pub(crate) fn loop_totals() -> Totals
-    ensures { result ≡ Between 2 20 }
+pub(crate) fn loop_totals() -> Result<Totals, Refusal>
+    ensures { result ≡ totals_between 2 20 }
 {
     let chart = loop_chart();
     let table = loop_table();
@@ -89,8 +88,8 @@ pub(crate) fn loop_totals() -> Totals
 }
 
 // What is answered for that table and those costs at 0.125 microseconds a cycle and an overhead of 2, against 4.5, which is the figure of 20 cycles.
-pub(crate) fn loop_judged() -> Judged
-    ensures { result ≡ Met (number least) (number most) }
+pub(crate) fn loop_judged() -> Result<Judged, Refusal>
+    ensures { result ≡ judged_with true (number least) (number most) }
 {
     let chart = loop_chart();
     let table = loop_table();
@@ -128,26 +127,18 @@ pub(crate) fn three_kinds() -> [u8; 32]
 }
 
 // What the record of node 1 in them says.
-pub(crate) fn written_node() -> Node
+pub(crate) fn written_node() -> Node<Reference>
     ensures { node_out result ≡ 2 ∷ 0xDEADBEEF ∷ 0xDEADBEF0 ∷ 2 ∷ 0x123 ∷ 0x456 ∷ [] }
 {
     let chart = three_kinds();
     chart::node_at(&chart, 1)
 }
 
-// The same number, of another type: it is below 256.
-fn wide(byte: u8) -> u64
-    ensures { (result ≡ byte) × (result < 256) }
-{
-    byte as u64
-}
-
 // Whatever bytes are lent are numbers below 256, which is all that demand 1 asks where it goes byte by byte.
 pub(crate) fn are_bytes(lent: &[u8])
     ensures { AreBytes lent.now }
 {
-    let count = lent.len();
-    for k in 0..count {
-        wide(lent[k]);
+    for byte in lent {
+        u64::from(*byte);
     }
 }

@@ -1,4 +1,5 @@
 -- A row that is taken through its node's record has the ages of the step, in the columns of the plan; the row of the start has the start's.
+use Rattle.std.specs.Prelude.{None, Option, Some}
 use Prim.Native.Nat.{ℕ, ◌≤◌, ◌<◌}
 use mathlib.Core.Bool.{Bool, true, false, cond}
 use mathlib.Core.List.{List, [], ◌∷◌}
@@ -12,14 +13,13 @@ use Rattle.chart.specs.Geometry.{most_blocks}
 use Rattle.cache.specs.Ages.{Ages, touch_ages, start_ages}
 use Rattle.flow.specs.Walk.{in_turn}
 use Rattle.ages.specs.Plan.{ColumnTouch, Plan, columns_of, touch_column, after_touch, plan_flow}
-use Rattle.plan.specs.declared.PlannedRecord.{PlannedRecord}
-use Rattle.plan.specs.declared.PlannedRecord.TheVariants.{Step, Reference}
 use Rattle.plan.specs.Listed.{nodes_in, blocks_in, empty_in, node_in, touches_by, plan_in, Drawn, RecordIn}
 use Rattle.plan.proofs.Holding.{touches-held, key-held, must-limit-held, may-limit-held, record-in}
 use Rattle.rows.specs.Rows.{columns_by, after_record}
 use Rattle.tables.specs.Lent.{Lent, ages_used, ages_at}
 use Rattle.tables.specs.Inner.{Loads, row_after, AgesAgree}
 use Rattle.tables.proofs.Agreeing.{agree-through, touch-agrees}
+use Rattle.plan.specs.declared.ColumnTouches.{ColumnTouches}
 
 module _ (columns plan : List ℕ) (drawn : Drawn columns plan) where
   abbrev held : Plan
@@ -32,10 +32,10 @@ module _ (columns plan : List ℕ) (drawn : Drawn columns plan) where
       (λ j h. sym (key-held columns plan j h))
       (λ j h. sym (may-limit-held columns plan j h))
 
-  record-agrees : (planned : PlannedRecord) → RecordIn (blocks_in plan) planned → (row a : Ages) → AgesAgree (blocks_in plan) row a
+  record-agrees : (planned : Option ColumnTouches) → RecordIn (blocks_in plan) planned → (row a : Ages) → AgesAgree (blocks_in plan) row a
       → AgesAgree (blocks_in plan) (after_record (columns_by columns most_blocks) planned row) (in_turn (after_touch held) (touches_by planned) a)
-  record-agrees Step inside row a agree = agree
-  record-agrees (Reference reference) inside row a agree = go (eqb reference.lower reference.upper)
+  record-agrees None inside row a agree = agree
+  record-agrees (Some reference) inside row a agree = go (eqb reference.lower reference.upper)
     where
       both : Bool → List ColumnTouch
       both t = record { column = reference.lower; write = reference.write } ∷ cond t [] (record { column = reference.upper; write = reference.write } ∷ [])

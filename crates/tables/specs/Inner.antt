@@ -1,16 +1,16 @@
 -- What the functions on lent tables and their laws promise one another: stores over places of a buffer, rows beside the table, and used parts.
 -- Nothing here is a rule of the tool: laws lead from it to the meetings of `flow`, which has rules 6.6 and 9.4.
-use Rattle.std.specs.Prelude.{ℕ, ◌+◌, ◌*◌, ◌≤◌, ◌<◌, max, min, Bool, true, cond, List, ◌≡◌, get_or, set, length, take, ltb, eqb}
+use Rattle.std.specs.Prelude.{ℕ, ◌+◌, ◌*◌, ◌≤◌, ◌<◌, max, min, Bool, true, cond, List, ◌≡◌, get_or, set, length, take, ltb, eqb, Option}
 use Rattle.lists.specs.Lists.{list_of}
 use Rattle.lists.specs.Loops.{patch}
 use Rattle.chart.specs.Geometry.{most_blocks}
-use Rattle.plan.specs.declared.PlannedRecord.{PlannedRecord}
 use Rattle.rows.specs.Rows.{columns_by, after_record, age_from}
 use Rattle.cache.specs.Ages.{Ages, age_of}
 use Rattle.flow.specs.Pass.{Run}
 use Rattle.layout.specs.Joins.{joined_row, row_moves}
 use Rattle.ages.specs.Plan.{Plan}
 use Rattle.tables.specs.Lent.{Lent, ages_used, marks_used, table_of, over}
+use Rattle.plan.specs.declared.ColumnTouches.{ColumnTouches}
 
 -- A lent table, and whether anything has changed.
 pub record LentRun : Type 0 where
@@ -53,7 +53,7 @@ pub record Loads (columns must may : List ℕ) (count n : ℕ) : Type 0 where
   pub may_in : n * count + count ≤ length may
 
 -- The ages of row n after a record.
-abbrev pub row_after : List ℕ → List ℕ → List ℕ → ℕ → ℕ → PlannedRecord → Ages
+abbrev pub row_after : List ℕ → List ℕ → List ℕ → ℕ → ℕ → Option ColumnTouches → Ages
 row_after columns must may count n planned =
     after_record (columns_by columns most_blocks) planned (ages_from count (n * count) must may)
 

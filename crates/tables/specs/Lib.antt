@@ -2,3 +2,4 @@ pub mod Lent
 pub mod Inner
 pub mod Contract
 pub mod Fitting
+pub mod AsTable

@@ -3,6 +3,8 @@
 // the mark of a row that is met into.
 #![tactic(auto)]
 
+mod lent;
+
 ghost use Rattle.std.specs.Prelude.{false, ◌≡◌, ◌+◌, ◌*◌, ◌≤◌, ◌<◌, max, min, length};
 ghost use Rattle.lists.specs.Loops.{patch};
 ghost use Rattle.chart.specs.Geometry.{most_blocks};
@@ -14,8 +16,8 @@ ghost use Rattle.tables.specs.Inner.{Loads, AgesAgree, ages_from, row_after, gro
 ghost use Rattle.tables.specs.Contract.{entry_run, exit_run};
 
 use chart::Geometry;
-use plan::PlannedRecord;
-use rows::smaller_of;
+pub use lent::{PlanTable, Table};
+use plan::ColumnTouches;
 
 // A quarter and a half of the most places that a row can have.
 const QUARTER: usize = Geometry::BLOCKS / 4;
@@ -45,13 +47,6 @@ fn width_of(blocks: usize, room: usize) -> usize
     if width <= room { width } else { blocks }
 }
 
-// The smaller of two lengths.
-fn shorter(a: usize, b: usize) -> usize
-    ensures { result ≡ min a b }
-{
-    if b < a { b } else { a }
-}
-
 // Makes a list begin with the ages that stand from `base` on.
 fn take_ages(ages: &[u8], base: usize, blocks: usize, taken: &mut [u8])
     requires { (base + blocks ≤ length ages.now) × (blocks ≤ length taken.old) }
@@ -78,7 +73,7 @@ fn touch_row(
     requires most_blocks_in_bounds { (3 * most_blocks ≤ length columns.now) × ((length musts.old ≡ most_blocks) × (length mays.old ≡ most_blocks)) }
     ensures { AgesAgree blocks (exit_ages musts.new mays.new) (touch_ages (columns_by columns.now most_blocks) m (ages_from blocks base must.now may.now)) }
 {
-    let width = width_of(blocks, shorter(must.len(), may.len()) - base);
+    let width = width_of(blocks, must.len().min(may.len()) - base);
     rows::touch(must, may, base, width, columns, m, musts, mays);
 }
 
@@ -90,7 +85,7 @@ pub fn row_after(
     columns: &[u8],
     blocks: usize,
     n: usize,
-    planned: PlannedRecord,
+    planned: Option<ColumnTouches>,
     musts: &mut [u8],
     mays: &mut [u8],
 )
@@ -100,7 +95,7 @@ pub fn row_after(
     ensures { AgesAgree blocks (exit_ages musts.new mays.new) (row_after columns.now must.now may.now blocks n planned) }
 {
     let base = n * blocks;
-    let PlannedRecord::Reference(reference) = planned else {
+    let Some(reference) = planned else {
         take_ages(must, base, blocks, musts);
         take_ages(may, base, blocks, mays);
         return;
@@ -131,9 +126,7 @@ pub fn fill(buffer: &mut [u8], base: usize, count: usize, value: u8)
     requires { base + count ≤ length buffer.old }
     ensures { buffer.new ≡ patch buffer.old base count (λ j. value) }
 {
-    for j in 0..count {
-        buffer[base + j] = value;
-    }
+    buffer[base..base + count].fill(value);
 }
 
 // Stores the ages in the places from `base` on, as they are.
@@ -146,13 +139,6 @@ fn put_ages(buffer: &mut [u8], base: usize, blocks: usize, ages: &[u8])
     }
 }
 
-// The larger of two ages.
-fn larger_of(a: u8, b: u8) -> u8
-    ensures { result ≡ max a b }
-{
-    if a < b { b } else { a }
-}
-
 // Stores the larger of each age and what stands there. Answers true if `changed` was, or if anything grew.
 fn put_larger(buffer: &mut [u8], base: usize, blocks: usize, ages: &[u8], changed: bool) -> bool
     requires { (blocks ≤ length ages.now) × (base + blocks ≤ length buffer.old) }
@@ -162,7 +148,7 @@ fn put_larger(buffer: &mut [u8], base: usize, blocks: usize, ages: &[u8], change
     for j in 0..blocks {
         let old = buffer[base + j];
         let new = ages[j];
-        buffer[base + j] = larger_of(old, new);
+        buffer[base + j] = old.max(new);
         any = any | (old < new);
     }
     any
@@ -177,7 +163,7 @@ fn put_smaller(buffer: &mut [u8], base: usize, blocks: usize, ages: &[u8], chang
     for j in 0..blocks {
         let old = buffer[base + j];
         let new = ages[j];
-        buffer[base + j] = smaller_of(old, new);
+        buffer[base + j] = old.min(new);
         any = any | (new < old);
     }
     any

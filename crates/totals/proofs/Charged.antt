@@ -1,4 +1,5 @@
 -- The marks of columns say of which blocks a touch is kept at a node with a ceiling above 0, and so the difference is charged as rule 10.4 has it.
+use Rattle.std.specs.Prelude.{None, Option, Some}
 use Prim.Native.Nat.{ℕ, zero, suc, ◌+◌, ◌-◌, ◌*◌, ◌≤◌, ◌<◌}
 use mathlib.Core.Bool.{Bool, true, false, cond, ◌&&◌, ◌||◌}
 use mathlib.Core.List.{List, [], ◌∷◌}
@@ -20,14 +21,13 @@ use Rattle.flow.specs.Flow.{Cell, blank, holds, cell_at}
 use Rattle.ages.specs.Plan.{ColumnTouch, Plan, touches_in}
 use Rattle.classes.specs.Class.{none, kept, Whole, whole_at, classes_of, node_class, table_classes}
 use Rattle.costs.specs.Costs.{Figures, keeps_among, keeps_at, charged_for, kept_charge, high_total}
-use Rattle.plan.specs.declared.PlannedRecord.{PlannedRecord}
-use Rattle.plan.specs.declared.PlannedRecord.TheVariants.{Step, Reference}
 use Rattle.plan.specs.Listed.{nodes_in, blocks_in, node_in, touches_by, plan_in, Drawn, RecordIn}
 use Rattle.plan.proofs.Holding.{touches-held, record-in, record-fits}
 use Rattle.tables.specs.Lent.{Lent, table_of}
 use Rattle.totals.specs.Charged.{set_if, marked_by, charged_by, charged_to, keeps_of, charges_at, charged_blocks}
 use Rattle.totals.specs.Inner.{sums_to}
 use Rattle.totals.proofs.Summing.{first-class, second-class, high_is}
+use Rattle.plan.specs.declared.ColumnTouches.{ColumnTouches}
 
 -- ---- marks
 
@@ -56,26 +56,26 @@ or_assoc true b c = refl
 or_assoc false b c = refl
 
 module _ (first second : ℕ) (marks : List ℕ) where
-  length-marked_by : (planned : PlannedRecord) → length (marked_by planned first second marks) ≡ length marks
-  length-marked_by Step = refl
-  length-marked_by (Reference reference) =
+  length-marked_by : (planned : Option ColumnTouches) → length (marked_by planned first second marks) ≡ length marks
+  length-marked_by None = refl
+  length-marked_by (Some reference) =
       length-set_if (eqb second kept) reference.upper (set_if (eqb first kept) reference.lower marks) ∙ length-set_if (eqb first kept) reference.lower marks
 
-  marked_by-at : (planned : PlannedRecord) → RecordIn (length marks) planned → (flag : Bool) (k : ℕ) → get_or marks k 0 ≡ cond flag 1 0 → get_or (marked_by planned first second marks) k 0 ≡ cond (flag || keeps_of k planned first second) 1 0
-  marked_by-at Step inside flag k e = e ∙ ap (λ (t : Bool). cond t 1 0) (sym (or-last flag))
-  marked_by-at (Reference reference) inside flag k e =
+  marked_by-at : (planned : Option ColumnTouches) → RecordIn (length marks) planned → (flag : Bool) (k : ℕ) → get_or marks k 0 ≡ cond flag 1 0 → get_or (marked_by planned first second marks) k 0 ≡ cond (flag || keeps_of k planned first second) 1 0
+  marked_by-at None inside flag k e = e ∙ ap (λ (t : Bool). cond t 1 0) (sym (or-last flag))
+  marked_by-at (Some reference) inside flag k e =
       set_if-at (eqb second kept) reference.upper (set_if (eqb first kept) reference.lower marks) (flag || (eqb reference.lower k && eqb first kept)) k (rw (length-set_if (eqb first kept) reference.lower marks) inside.1)
       (set_if-at (eqb first kept) reference.lower marks flag k inside.0 e)
       ∙ ap (λ (t : Bool). cond t 1 0) (or_assoc flag (eqb reference.lower k && eqb first kept) (eqb reference.upper k && eqb second kept))
 
-  pub length-charged_by : (planned : PlannedRecord) (ceiling : ℕ) → length (charged_by planned first second ceiling marks) ≡ length marks
+  pub length-charged_by : (planned : Option ColumnTouches) (ceiling : ℕ) → length (charged_by planned first second ceiling marks) ≡ length marks
   length-charged_by planned ceiling = go (eqb ceiling 0)
     where
       go : (t : Bool) → length (cond t marks (marked_by planned first second marks)) ≡ length marks
       go true = refl
       go false = length-marked_by planned
 
-  charged_by-at : (planned : PlannedRecord) (ceiling : ℕ) → RecordIn (length marks) planned → (flag : Bool) (k : ℕ) → get_or marks k 0 ≡ cond flag 1 0
+  charged_by-at : (planned : Option ColumnTouches) (ceiling : ℕ) → RecordIn (length marks) planned → (flag : Bool) (k : ℕ) → get_or marks k 0 ≡ cond flag 1 0
       → get_or (charged_by planned first second ceiling marks) k 0 ≡ cond (flag || (ltb 0 ceiling && keeps_of k planned first second)) 1 0
   charged_by-at planned zero inside flag k e = e ∙ ap (λ (t : Bool). cond t 1 0) (sym (or-last flag))
   charged_by-at planned (suc ceiling) inside flag k e = rw (ne_eqb (suc ceiling) 0 (λ q. omega arith), lt-ltb 0 (suc ceiling) (omega arith)) (marked_by-at planned inside flag k e)
@@ -119,10 +119,10 @@ and-false false = refl
 
 module _ (held : Plan) (n column : ℕ) where
   -- A record's touches, with their classes.
-  keeps-of : (planned : PlannedRecord) (whole : Whole)
+  keeps-of : (planned : Option ColumnTouches) (whole : Whole)
       → keeps_of column planned (get_or (classes_of held (touches_by planned) whole) 0 none) (get_or (classes_of held (touches_by planned) whole) 1 none) ≡ keeps_among column (touches_by planned) (classes_of held (touches_by planned) whole)
-  keeps-of Step whole = refl
-  keeps-of (Reference reference) whole = go (eqb reference.lower reference.upper)
+  keeps-of None whole = refl
+  keeps-of (Some reference) whole = go (eqb reference.lower reference.upper)
     where
       lower : ColumnTouch
       lower = record { column = reference.lower; write = reference.write }
@@ -130,17 +130,17 @@ module _ (held : Plan) (n column : ℕ) where
       upper : ColumnTouch
       upper = record { column = reference.upper; write = reference.write }
 
-      go : (t : Bool) → keeps_of column (Reference reference) (get_or (classes_of held (lower ∷ cond t [] (upper ∷ [])) whole) 0 none) (get_or (classes_of held (lower ∷ cond t [] (upper ∷ [])) whole) 1 none)
+      go : (t : Bool) → keeps_of column (Some reference) (get_or (classes_of held (lower ∷ cond t [] (upper ∷ [])) whole) 0 none) (get_or (classes_of held (lower ∷ cond t [] (upper ∷ [])) whole) 1 none)
           ≡ keeps_among column (lower ∷ cond t [] (upper ∷ [])) (classes_of held (lower ∷ cond t [] (upper ∷ [])) whole)
       go true = ap (λ (x : Bool). (eqb reference.lower column && eqb (get_or (classes_of held (lower ∷ []) whole) 0 none) kept) || x) (and-false (eqb reference.upper column))
       go false = ap (λ (x : Bool). (eqb reference.lower column && eqb (get_or (classes_of held (lower ∷ (upper ∷ [])) whole) 0 none) kept) || x)
           (sym (or-last (eqb reference.upper column && eqb (get_or (classes_of held (lower ∷ (upper ∷ [])) whole) 1 none) kept)))
 
-  keeps-blank : (planned : PlannedRecord) → keeps_of column planned 0 0 ≡ false
-  keeps-blank Step = refl
-  keeps-blank (Reference reference) = rw (and-false (eqb reference.lower column), and-false (eqb reference.upper column))
+  keeps-blank : (planned : Option ColumnTouches) → keeps_of column planned 0 0 ≡ false
+  keeps-blank None = refl
+  keeps-blank (Some reference) = rw (and-false (eqb reference.lower column), and-false (eqb reference.upper column))
 
-  keeps-at : (planned : PlannedRecord) → touches_in held n ≡ touches_by planned → (cell : Cell Ages) → keeps_of column planned (node_class held n 0 cell) (node_class held n 1 cell) ≡ keeps_at held column n cell
+  keeps-at : (planned : Option ColumnTouches) → touches_in held n ≡ touches_by planned → (cell : Cell Ages) → keeps_of column planned (node_class held n 0 cell) (node_class held n 1 cell) ≡ keeps_at held column n cell
   keeps-at planned e blank = keeps-blank planned
   keeps-at planned e (holds a) = rw e (keeps-of planned (whole_at held n a))
 

@@ -1,4 +1,5 @@
 -- The two sums: no sum overflows, and those over all nodes by a list of their classes, touch by touch, are the totals but for what rule 10.4 adds.
+use Rattle.std.specs.Prelude.{None, Option, Some}
 use Prim.Native.Nat.{ℕ, suc, ◌+◌, ◌*◌, ◌≤◌, ◌<◌}
 use mathlib.Core.Bool.{Bool, true, false, cond, ◌||◌}
 use mathlib.Core.List.{List, [], ◌∷◌}
@@ -18,13 +19,12 @@ use Rattle.classes.specs.Class.{unreached, hit, miss, none, kept, node_class, ta
 use Rattle.classes.proofs.Places.{classes_long, first_listed, second_listed}
 use Rattle.costs.specs.Costs.{Costs, Figures, high_rate, low_rate, visit_cost, total_by, high_total_by, low_total, classes_at, class_cost}
 use Rattle.costs.proofs.Classed.{node-cost}
-use Rattle.plan.specs.declared.PlannedRecord.{PlannedRecord}
-use Rattle.plan.specs.declared.PlannedRecord.TheVariants.{Step, Reference}
 use Rattle.plan.specs.Listed.{nodes_in, node_in, touches_by, plan_in}
 use Rattle.plan.proofs.Holding.{touches-held}
 use Rattle.tables.specs.Lent.{Lent, table_of}
-use Rattle.totals.specs.declared.sums.Sums.{Sums}
+use Rattle.totals.specs.declared.Totals.{Totals}
 use Rattle.totals.specs.Inner.{most_added, Small, touch_added, classes_cost, sums_to}
+use Rattle.plan.specs.declared.ColumnTouches.{ColumnTouches}
 
 -- ---- no sum overflows
 
@@ -35,7 +35,7 @@ cond-most false a b most h g = g
 pub added-most : (times rate : ℕ) → times ≤ 65535 → rate ≤ 65535 → times * rate ≤ most_added
 added-most times rate h g = mul-le-mul {n₂ = 65535} {m₂ = 65535} h g
 
-pub small-more : (n m : ℕ) (sums : Sums) → n ≤ m → Small n sums → Small m sums
+pub small-more : (n m : ℕ) (sums : Totals) → n ≤ m → Small n sums → Small m sums
 small-more n m sums h s = record { low_most = omega (arith, s.low_most); high_most = omega (arith, s.high_most) }
 
 -- Where the costs have 16 bits, so has what a touch counts; and with floor and ceiling of 16 bits, one touch more is one time the most more.
@@ -49,7 +49,7 @@ module _ (costs : Costs) (h : costs.hit ≤ 65535) (g : costs.miss ≤ 65535) (c
   cost-most : (rate : ℕ → ℕ) → rate class ≤ 65535 → class_cost rate class ≤ 65535
   cost-most rate most = cond-most (eqb class unreached || eqb class none) 0 (rate class) 65535 (omega arith) most
 
-  pub small-turn : (floor ceiling : ℕ) → floor ≤ 65535 → ceiling ≤ 65535 → (n : ℕ) (sums : Sums) → Small n sums → Small (n + 1) (touch_added costs class floor ceiling sums)
+  pub small-turn : (floor ceiling : ℕ) → floor ≤ 65535 → ceiling ≤ 65535 → (n : ℕ) (sums : Totals) → Small n sums → Small (n + 1) (touch_added costs class floor ceiling sums)
   small-turn floor ceiling f c n sums s =
       record {
         low_most = omega (arith, s.low_most, added-most floor (class_cost (low_rate costs) class) f (cost-most (low_rate costs) low-rate-most));
@@ -57,7 +57,7 @@ module _ (costs : Costs) (h : costs.hit ≤ 65535) (g : costs.miss ≤ 65535) (c
       }
 
 -- A visit that counts nothing adds nothing.
-pub nothing-added : (floor ceiling : ℕ) (sums : Sums) → sums ≡ record { low = sums.low + floor * 0; high = sums.high + ceiling * 0 }
+pub nothing-added : (floor ceiling : ℕ) (sums : Totals) → sums ≡ record { low = sums.low + floor * 0; high = sums.high + ceiling * 0 }
 nothing-added floor ceiling sums =
     let low : sums.low ≡ sums.low + floor * 0 = omega arith in
     let high : sums.high ≡ sums.high + ceiling * 0 = omega arith in
@@ -65,12 +65,12 @@ nothing-added floor ceiling sums =
 
 -- ---- a turn of the loop over the nodes
 
-pub sums-turn : (classes : List ℕ) (figures : Figures) (n : ℕ) (sums : Sums) → sums ≡ sums_to classes figures n
+pub sums-turn : (classes : List ℕ) (figures : Figures) (n : ℕ) (sums : Totals) → sums ≡ sums_to classes figures n
     → touch_added figures.costs (get_or classes (most_touches * n + 1) 0) (get_or figures.floors n 0) (get_or figures.ceilings n 0)
     (touch_added figures.costs (get_or classes (most_touches * n) 0) (get_or figures.floors n 0) (get_or figures.ceilings n 0) sums)
     ≡ sums_to classes figures (n + 1)
 sums-turn classes figures n sums e =
-    ap (λ (s : Sums). touch_added figures.costs (get_or classes (most_touches * n + 1) 0) (get_or figures.floors n 0) (get_or figures.ceilings n 0)
+    ap (λ (s : Totals). touch_added figures.costs (get_or classes (most_touches * n + 1) 0) (get_or figures.floors n 0) (get_or figures.ceilings n 0)
     (touch_added figures.costs (get_or classes (most_touches * n) 0) (get_or figures.floors n 0) (get_or figures.ceilings n 0) s)) e
     ∙ (λ i. record {
       low = both (sums_to classes figures n).low (get_or figures.floors n 0) (class_cost (low_rate figures.costs) (get_or classes (most_touches * n) 0)) (class_cost (low_rate figures.costs) (get_or classes (most_touches * n + 1) 0)) i;
@@ -86,9 +86,9 @@ sums-turn classes figures n sums e =
 
 -- ---- the sums are the totals
 
-pub few-touches : (planned : PlannedRecord) → length (touches_by planned) ≤ 2
-few-touches Step = omega arith
-few-touches (Reference reference) = go (eqb reference.lower reference.upper)
+pub few-touches : (planned : Option ColumnTouches) → length (touches_by planned) ≤ 2
+few-touches None = omega arith
+few-touches (Some reference) = go (eqb reference.lower reference.upper)
   where
     go : (t : Bool) → length {A = ColumnTouch} (record { column = reference.lower; write = reference.write } ∷ cond t [] (record { column = reference.upper; write = reference.write } ∷ [])) ≤ 2
     go true = omega arith

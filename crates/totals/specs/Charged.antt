@@ -1,13 +1,12 @@
 -- What the functions that count charged blocks promise one another, by a plan's list and the classes of all nodes. Nothing here is a rule of the tool:
 -- `costs` has rule 10.4, and laws lead there.
-use Rattle.std.specs.Prelude.{ℕ, zero, suc, ◌+◌, ◌*◌, Bool, false, cond, ◌&&◌, ◌||◌, List, eqb, ltb, get_or, set, replicate}
+use Rattle.std.specs.Prelude.{ℕ, zero, suc, ◌+◌, ◌*◌, Bool, false, cond, ◌&&◌, ◌||◌, List, eqb, ltb, get_or, set, replicate, None, Option, Some}
 use Rattle.lists.specs.Lists.{sum_of}
 use Rattle.lists.specs.Loops.{any}
 use Rattle.chart.specs.Geometry.{most_blocks, most_touches}
 use Rattle.classes.specs.Class.{kept}
-use Rattle.plan.specs.declared.PlannedRecord.{PlannedRecord}
-use Rattle.plan.specs.declared.PlannedRecord.TheVariants.{Step, Reference}
 use Rattle.plan.specs.Listed.{nodes_in, blocks_in, node_in}
+use Rattle.plan.specs.declared.ColumnTouches.{ColumnTouches}
 
 -- ---- marks of columns, as they are stored
 
@@ -15,13 +14,13 @@ abbrev pub set_if : Bool → ℕ → List ℕ → List ℕ
 set_if test column marks = cond test (set marks column 1) marks
 
 -- The marks after a record whose touches have these classes.
-abbrev pub marked_by : PlannedRecord → ℕ → ℕ → List ℕ → List ℕ
-marked_by Step first second marks = marks
-marked_by (Reference reference) first second marks =
+abbrev pub marked_by : Option ColumnTouches → ℕ → ℕ → List ℕ → List ℕ
+marked_by None first second marks = marks
+marked_by (Some reference) first second marks =
     set_if (eqb second kept) reference.upper (set_if (eqb first kept) reference.lower marks)
 
 -- The same where the node's ceiling is above 0.
-abbrev pub charged_by : PlannedRecord → ℕ → ℕ → ℕ → List ℕ → List ℕ
+abbrev pub charged_by : Option ColumnTouches → ℕ → ℕ → ℕ → List ℕ → List ℕ
 charged_by planned first second ceiling marks = cond (eqb ceiling 0) marks (marked_by planned first second marks)
 
 -- The marks after the first n nodes.
@@ -34,9 +33,9 @@ charged_to plan classes ceilings (suc n) =
 -- ---- what they say
 
 -- Whether a touch of a column has the class kept, where the touches of a record have these classes.
-abbrev pub keeps_of : ℕ → PlannedRecord → ℕ → ℕ → Bool
-keeps_of column Step first second = false
-keeps_of column (Reference reference) first second =
+abbrev pub keeps_of : ℕ → Option ColumnTouches → ℕ → ℕ → Bool
+keeps_of column None first second = false
+keeps_of column (Some reference) first second =
     (eqb reference.lower column && eqb first kept) || (eqb reference.upper column && eqb second kept)
 
 -- Whether it has at node n, and the node's ceiling is above 0.

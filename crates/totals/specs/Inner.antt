@@ -8,7 +8,7 @@ use Rattle.chart.specs.Geometry.{most_touches}
 use Rattle.ages.specs.Plan.{Plan}
 use Rattle.costs.specs.Costs.{Costs, Figures, high_rate, low_rate, class_cost, low_total, high_total}
 use Rattle.totals.specs.declared.sums.Tariff.{Tariff}
-use Rattle.totals.specs.declared.sums.Sums.{Sums}
+use Rattle.totals.specs.declared.Totals.{Totals}
 
 -- The costs that a tariff says.
 abbrev pub costs_of : Tariff → Costs
@@ -23,13 +23,13 @@ figures_of tariff floors ceilings =
 abbrev pub most_added : ℕ
 most_added = 65535 * 65535
 
--- Sums that so many touches can have come to.
-pub record Small (touches : ℕ) (sums : Sums) : Type 0 where
+-- Totals that so many touches can have come to.
+pub record Small (touches : ℕ) (sums : Totals) : Type 0 where
   pub low_most : sums.low ≤ touches * most_added
   pub high_most : sums.high ≤ touches * most_added
 
 -- The sums with one touch of a class added.
-abbrev pub touch_added : Costs → ℕ → ℕ → ℕ → Sums → Sums
+abbrev pub touch_added : Costs → ℕ → ℕ → ℕ → Totals → Totals
 touch_added costs class floor ceiling sums =
     record {
       low = sums.low + floor * class_cost (low_rate costs) class;
@@ -41,7 +41,7 @@ abbrev pub classes_cost : (ℕ → ℕ) → List ℕ → ℕ → ℕ
 classes_cost rate classes n = class_cost rate (get_or classes (most_touches * n) 0) + class_cost rate (get_or classes (most_touches * n + 1) 0)
 
 -- The sums over the first n nodes, by such a list.
-abbrev pub sums_to : List ℕ → Figures → ℕ → Sums
+abbrev pub sums_to : List ℕ → Figures → ℕ → Totals
 sums_to classes figures n =
     record {
       low = sum_of n (λ k. get_or figures.floors k 0 * classes_cost (low_rate figures.costs) classes k);
@@ -49,5 +49,5 @@ sums_to classes figures n =
     }
 
 -- The two totals of a table.
-abbrev pub both_sums : Plan → List (Cell Ages) → Figures → Sums
+abbrev pub both_sums : Plan → List (Cell Ages) → Figures → Totals
 both_sums plan table figures = record { low = low_total plan table figures; high = high_total plan table figures }

@@ -2,7 +2,7 @@
 -- rules 10.2 to 10.4 are those of `costs`. By rule 11.0 a 16 at a later node goes before a 17 at an earlier one. Refusal 17 asks for a mark
 -- alone, so it is given at a bare step too; a ceiling at an unmarked node is no fault. Costs, floors and ceilings are any numbers, though rule
 -- 10.1 has 16 bits for them.
-use Rattle.std.specs.Prelude.{ℕ, Bool, not, ◌&&◌, List, [], ◌∷◌, get_or, length, ltb, eqb}
+use Rattle.std.specs.Prelude.{ℕ, Bool, not, ◌&&◌, List, [], ◌∷◌, get_or, length, ltb, eqb, Result, Ok, Err}
 use Rattle.lists.specs.Slices.{Slice}
 use Rattle.lists.specs.Choice.{Case, ◌⇒◌, first_case, first}
 use Rattle.refusals.specs.declared.Refusal.{Refusal}
@@ -15,12 +15,15 @@ use Rattle.tables.specs.Lent.{Lent, table_of, table_short}
 use Rattle.checker.specs.Checker.{passing}
 use Rattle.costs.specs.Costs.{Figures, low_total, high_total}
 use Rattle.totals.specs.declared.Totals.{Totals}
-use Rattle.totals.specs.declared.Totals.TheVariants.{Between, Refused}
 
 -- The figures as the clauses of a contract name them.
 abbrev pub entry_figures : ℕ → ℕ → Slice → Slice → Figures
 entry_figures hit miss floors ceilings =
     record { costs = record { hit = hit; miss = miss }; floors = floors.entry.now; ceilings = ceilings.entry.now }
+
+-- The low and the high total, answered.
+abbrev pub totals_between : ℕ → ℕ → Result Totals Refusal
+totals_between low high = Ok (record { low = low; high = high })
 
 -- Rule 11.16, at node n.
 abbrev pub crossed_at : List ℕ → List ℕ → ℕ → Bool
@@ -55,17 +58,17 @@ pub record TotalsSaid : Type 0 where
   pub high : ℕ
 
 -- Rules 12.6 and 12.8: the two totals, or a refusal's number and place.
-abbrev pub totals_say : Totals → TotalsSaid
-totals_say (Between low high) = record { number = 0; place = 0; low = low; high = high }
-totals_say (Refused refusal) = record { number = number_of refusal; place = place_of refusal; low = 0; high = 0 }
+abbrev pub totals_say : Result Totals Refusal → TotalsSaid
+totals_say (Ok totals) = record { number = 0; place = 0; low = totals.low; high = totals.high }
+totals_say (Err refusal) = record { number = number_of refusal; place = place_of refusal; low = 0; high = 0 }
 
 -- Rules 10.2 to 10.4, of the table that is lent.
-abbrev pub both_totals : Plan → Lent → Figures → Totals
-both_totals plan lent figures = Between (low_total plan (table_of plan lent) figures) (high_total plan (table_of plan lent) figures)
+abbrev pub both_totals : Plan → Lent → Figures → Result Totals Refusal
+both_totals plan lent figures = totals_between (low_total plan (table_of plan lent) figures) (high_total plan (table_of plan lent) figures)
 
 -- Rule 12.6, of a table that passes.
-unfoldable pub totalled_by : Plan → Lent → Figures → Totals
-totalled_by plan lent figures = first_case Refused (figure_cases plan lent figures) (both_totals plan lent figures)
+unfoldable pub totalled_by : Plan → Lent → Figures → Result Totals Refusal
+totalled_by plan lent figures = first_case Err (figure_cases plan lent figures) (both_totals plan lent figures)
 
 -- Rules 11.11 and 11.13 to 11.17, in the order of rule 11.0.
 abbrev pub total_cases : Plan → Lent → Figures → List (Case Refusal)
@@ -73,13 +76,13 @@ total_cases plan lent figures =
     (table_short plan lent ⇒ ShortBuffer) ∷ (not (passing plan lent) ⇒ NotPassing) ∷ figure_cases plan lent figures
 
 -- Rule 12.6, of a chart that was read; refusals 1 to 10 are the reader's.
-abbrev pub total_read : Lent → Figures → Read → Totals
+abbrev pub total_read : Lent → Figures → Read → Result Totals Refusal
 total_read lent figures (accepted chart) =
-    first_case Refused (total_cases (plan_of chart) lent figures) (both_totals (plan_of chart) lent figures)
-total_read lent figures (refused refusal) = Refused refusal
+    first_case Err (total_cases (plan_of chart) lent figures) (both_totals (plan_of chart) lent figures)
+total_read lent figures (refused refusal) = Err refusal
 
 -- Rule 12.6, of any bytes.
-unfoldable pub totals : List ℕ → Lent → Figures → Totals
+unfoldable pub totals : List ℕ → Lent → Figures → Result Totals Refusal
 totals bytes lent figures = total_read lent figures (read_chart bytes)
 
 -- The same in numbers.

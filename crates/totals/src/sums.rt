@@ -3,28 +3,24 @@
 // refused here.
 ghost use Rattle.std.specs.Prelude.{◌≡◌, ◌-◌, ◌*◌, ◌≤◌, length};
 ghost use Rattle.chart.specs.Geometry.{most_nodes, most_blocks, most_touches};
-ghost use Rattle.plan.specs.Listed.{nodes_in, DrawnIn, plan_at};
+ghost use Rattle.plan.specs.Listed.{nodes_in};
+ghost use Rattle.plan.specs.AsPlan.{drawn_as};
 ghost use Rattle.tables.specs.Lent.{table_of};
-ghost use Rattle.tables.specs.Contract.{entry_table, RoomFor};
+ghost use Rattle.tables.specs.AsTable.{lent_as};
 ghost use Rattle.costs.specs.Costs.{low_rate, high_rate};
 ghost use Rattle.totals.specs.Totals.{entry_figures};
 ghost use Rattle.totals.specs.Inner.{costs_of, Small, touch_added, sums_to, both_sums};
 
+use crate::Totals;
 use crate::charging::charged_blocks;
 use chart::Geometry;
+use tables::PlanTable;
 
 // What a hit and what a miss cost.
 #[derive(Clone, Copy)]
 pub struct Tariff {
     pub hit: u16,
     pub miss: u16,
-}
-
-// The two sums so far, in u64. Neither overflows: Geometry::CLASSES products of two numbers of 16 bits are far below 2^64 (`Small`).
-#[derive(Clone, Copy)]
-pub(crate) struct Sums {
-    pub low: u64,
-    pub high: u64,
 }
 
 // What the low total counts for a touch of this class: the miss cost for a miss, else the hit cost.
@@ -50,7 +46,7 @@ pub fn high_rate(class: u8, tariff: Tariff) -> u16
 }
 
 // The sums with one touch of this class added; a node that is not reached, and a touch that is not made, hand them back.
-fn add_touch(sums: Sums, class: u8, tariff: Tariff, floor: u16, ceiling: u16) -> Sums
+fn add_touch(sums: Totals, class: u8, tariff: Tariff, floor: u16, ceiling: u16) -> Totals
     requires { Small (most_touches * most_nodes) sums }
     ensures { result ≡ touch_added (costs_of tariff) class floor ceiling sums }
 {
@@ -59,7 +55,7 @@ fn add_touch(sums: Sums, class: u8, tariff: Tariff, floor: u16, ceiling: u16) ->
     }
     let least = low_rate(class, tariff);
     let most = high_rate(class, tariff);
-    Sums {
+    Totals {
         low: sums.low + floor as u64 * least as u64,
         high: sums.high + ceiling as u64 * most as u64,
     }
@@ -72,13 +68,13 @@ fn sum_classes(
     tariff: Tariff,
     floors: &[u16],
     ceilings: &[u16],
-) -> Sums
+) -> Totals
     requires nodes_le_most_nodes { (nodes ≤ most_nodes) × (most_touches * nodes ≤ length classes.now) }
     requires nodes_in_bounds { (nodes ≤ length floors.now) × (nodes ≤ length ceilings.now) }
     ensures value { result ≡ sums_to classes.now (entry_figures tariff.hit tariff.miss floors ceilings) nodes }
     ensures small { Small (most_touches * nodes) result }
 {
-    let mut sums = Sums { low: 0, high: 0 };
+    let mut sums = Totals { low: 0, high: 0 };
     for n in 0..nodes {
         let floor = floors[n];
         let ceiling = ceilings[n];
@@ -100,28 +96,23 @@ pub fn charge(tariff: Tariff, blocks: usize) -> u64
 
 // The low and the high total of a table: the sums by the classes of its nodes, and in the high one the difference for each block that has a kept touch.
 pub(crate) fn sum_nodes(
-    columns: &[u8],
-    plan: &[u16],
-    must: &[u8],
-    may: &[u8],
-    marks: &[u8],
+    table: PlanTable,
     tariff: Tariff,
     floors: &[u16],
     ceilings: &[u16],
-) -> Sums
-    requires drawn_in { DrawnIn columns plan }
-    requires room_for { RoomFor plan.now must.now may.now marks.now }
-    requires plan_in_bounds { (nodes_in plan.now ≤ length floors.now) × (nodes_in plan.now ≤ length ceilings.now) }
+) -> Totals
+    requires plan_in_bounds { (nodes_in table.plan.numbers.now ≤ length floors.now) × (nodes_in table.plan.numbers.now ≤ length ceilings.now) }
     requires hit_le_miss { tariff.hit ≤ tariff.miss }
-    ensures { result ≡ both_sums (plan_at columns plan) (table_of (plan_at columns plan) (entry_table must.now may.now marks.now)) (entry_figures tariff.hit tariff.miss floors ceilings) }
+    ensures { result ≡ both_sums (drawn_as table.entry.plan) (table_of (drawn_as table.entry.plan) (lent_as table.entry.table)) (entry_figures tariff.hit tariff.miss floors ceilings) }
 {
-    let nodes = plan::nodes_in(plan);
+    let plan = table.plan;
+    let nodes = plan.nodes();
     let mut classes = [0u8; Geometry::CLASSES];
-    classing::write_classes(columns, plan, must, may, marks, &mut classes);
+    classing::write_classes(table, &mut classes);
     let sums = sum_classes(&classes, nodes, tariff, floors, ceilings);
-    let blocks = charged_blocks(plan, columns, &classes, ceilings);
+    let blocks = charged_blocks(plan, &classes, ceilings);
     let once = charge(tariff, blocks);
-    Sums {
+    Totals {
         low: sums.low,
         high: sums.high + once,
     }

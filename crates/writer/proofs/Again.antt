@@ -1,4 +1,5 @@
 -- A chart that was read and is taken apart: its fields are those of the bytes, and packed again they are the bytes.
+use Rattle.std.specs.Prelude.{None, Some}
 use Prim.Native.Nat.{ℕ, zero, suc, ◌+◌, ◌*◌, ◌-◌, ◌/◌, ◌%◌, ◌^◌, ◌≤◌, ◌<◌}
 use mathlib.Core.Bool.{Bool, true, false, cond}
 use mathlib.Core.List.{List}
@@ -12,7 +13,6 @@ use lib.Seq.{ext_get_or}
 use Rattle.lists.proofs.Listed.{length-list_of, get_or-list_of}
 use Rattle.chart.specs.declared.headers.HeaderFields.{HeaderFields}
 use Rattle.chart.specs.declared.records.RecordFields.{RecordFields}
-use Rattle.chart.specs.declared.records.Record.TheVariants.{Step, Reference}
 use Rattle.chart.specs.Layout.{word_at, chart_length, field}
 use Rattle.chart.specs.Header.{header_fields, start_of, start_code}
 use Rattle.chart.specs.Record.{last_byte, record_fields, record_keeps, record_of, node_of}
@@ -57,7 +57,7 @@ module _ (nodes : ℕ) (fields : RecordFields) (kept : record_keeps nodes fields
   node-back = go (eqb fields.kind 0) refl
     where
       go : (t : Bool) → eqb fields.kind 0 ≡ t
-          → fields_of (record { what = cond t Step (Reference (record { write = eqb fields.kind 2; address = fields.address; last = last_byte fields })); targets = record { outs = fields.outs; first = fields.first; second = fields.second } }) ≡ fields
+          → fields_of (record { what = cond t None (Some (record { write = eqb fields.kind 2; address = fields.address; last = last_byte fields })); targets = record { outs = fields.outs; first = fields.first; second = fields.second } }) ≡ fields
       go true e =
           let none = eqb-true fields.kind 0 e in
           let bare = keeps.steps none in

@@ -1,23 +1,25 @@
 -- What is known where all that is given was packed and no record broke its rules: the bytes are the chart's, and read back as what was given.
 use Prim.Native.Nat.{ℕ, ◌≤◌, ◌<◌}
-use mathlib.Core.Bool.{true}
+use mathlib.Core.Bool.{true, false}
 use mathlib.Core.List.{List}
 use mathlib.Core.Logic.{⊎_elim}
 use mathlib.Core.Path.{◌≡◌, sym, ap, subst, ◌∙◌}
 use native.Mathlib.Omega.{arith}
+use lib.Dec.{ltb}
 use lib.ListN.{length, get_or, replicate, get_or-replicate, length-replicate, get_or-eq_default}
+use Rattle.std.specs.Prelude.{Result}
+use Rattle.refusals.specs.declared.Refusal.{Refusal}
 use Rattle.lists.specs.Choice.{NoneApplies}
 use Rattle.lists.specs.Loops.{patch}
 use Rattle.lists.proofs.Orders.{below_or}
 use Rattle.lists.proofs.Loops.{length-patch, patch-ahead, patch-in0}
-use Rattle.chart.specs.declared.gathering.Gathered.{Gathered}
 use Rattle.chart.specs.declared.headers.Header.{Header}
 use Rattle.chart.specs.declared.records.RecordFields.{RecordFields}
 use Rattle.chart.specs.Geometry.{most_nodes, longest_chart}
 use Rattle.chart.specs.Layout.{chart_length, field, header_widths}
 use Rattle.chart.specs.Header.{header_cases, header_of}
 use Rattle.chart.specs.Record.{record_fields, record_keeps, record_of, Ends}
-use Rattle.chart.specs.Chart.{records_in}
+use Rattle.chart.specs.Chart.{records_in, first_broken}
 use Rattle.chart.specs.Inner.{AllEnd, Gathers}
 use Rattle.chart.proofs.Allowed.{keeps-ends}
 use Rattle.writer.specs.declared.heading.Heading.{Heading}
@@ -46,8 +48,8 @@ zero-at n i =
     ⊎_elim (λ (h : i < n). get_or-replicate n i 0 0 h) (λ (h : n ≤ i). get_or-eq_default (replicate n 0) 0 {n = i} (omega (arith, length-replicate {A = ℕ} n 0))) (below_or i n)
 
 module _ (heading : Heading) (header : Header) (lists : NodeLists) (is : header ≡ header_of (header_given heading)) (none : NoneApplies (header_cases (header_given heading) true)) (long : AllLong header.nodes lists)
-    (word broken : ℕ) (cur after : List ℕ) (packs : word ≡ packed header_widths (header_values (header_given heading))) (headed : cur ≡ patch (replicate longest_chart 0) 0 8 (λ k. field byte_widths k word))
-    (recorded : Packs (listed lists) header.nodes cur broken after) (whole : header.nodes ≤ broken)
+    (word : ℕ) (cur after : List ℕ) (packs : word ≡ packed header_widths (header_values (header_given heading))) (headed : cur ≡ patch (replicate longest_chart 0) 0 8 (λ k. field byte_widths k word))
+    (answer : Result (Unit {0}) Refusal) (recorded : Packs (listed lists) header.nodes cur answer after) (whole : ltb (first_broken (listed lists) header.nodes) header.nodes ≡ false)
   where
     few : header.nodes ≤ most_nodes
     few = omega (arith, few_nodes heading none, ap (λ (h : Header). h.nodes) is)
@@ -72,7 +74,7 @@ module _ (heading : Heading) (header : Header) (lists : NodeLists) (is : header 
         omega (arith, few)
 
     kept : (n : ℕ) → n < header.nodes → record_keeps header.nodes (listed lists n) ≡ true
-    kept = all-kept header.nodes (listed lists) broken recorded.found whole
+    kept = all-kept header.nodes (listed lists) whole
 
     records-are : (n : ℕ) → records_in after n ≡ listed lists n
     records-are =
@@ -82,5 +84,5 @@ module _ (heading : Heading) (header : Header) (lists : NodeLists) (is : header 
     pub packed_ends : AllEnd (records_in after) header.nodes
     packed_ends n h = subst (λ (f : RecordFields). Ends (record_of f)) (sym (records-are n)) (keeps-ends header.nodes (listed lists n) (kept n h))
 
-    pub packed-gathers : (answer : Gathered) (array : List ℕ) → Gathers (records_in after) header.geometry header.nodes answer array → Gathers (listed lists) header.geometry header.nodes answer array
-    packed-gathers answer array h = subst (λ (records : ℕ → RecordFields). Gathers records header.geometry header.nodes answer array) (λ i n. records-are n i) h
+    pub packed-gathers : (gathers : Result ℕ Refusal) (array : List ℕ) → Gathers (records_in after) header.geometry header.nodes gathers array → Gathers (listed lists) header.geometry header.nodes gathers array
+    packed-gathers gathers array h = subst (λ (records : ℕ → RecordFields). Gathers records header.geometry header.nodes gathers array) (λ i n. records-are n i) h

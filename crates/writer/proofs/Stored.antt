@@ -1,4 +1,5 @@
 -- Laws of storing: the words of a chart, stored one after another, are its bytes.
+use Rattle.std.specs.Prelude.{Ok}
 use Prim.Native.Nat.{ℕ, suc, ◌+◌, ◌*◌, ◌/◌, ◌%◌, ◌<◌}
 use mathlib.Core.List.{List}
 use mathlib.Core.Bool.{Bool, true, false, cond}
@@ -17,7 +18,6 @@ use Rattle.chart.specs.declared.headers.HeaderFields.{HeaderFields}
 use Rattle.chart.specs.declared.records.RecordFields.{RecordFields}
 use Rattle.chart.specs.Layout.{chart_length, field, header_widths}
 use Rattle.writer.specs.declared.heading.Heading.{Heading}
-use Rattle.writer.specs.declared.writing.Wrote.TheVariants.{Bytes}
 use Rattle.writer.specs.Given.{NodeLists, header_given, listed}
 use Rattle.writer.specs.Writer.{room_cases, refuse_writing, stored}
 use Rattle.writer.specs.Packing.{packed, header_values, records_word, chart_word, byte_widths, byte_of, chart_bytes}
@@ -61,16 +61,16 @@ module _ (records : ℕ → RecordFields) where
 -- Where there is room, bytes that are a chart's are stored as the chart.
 pub answer-stored : (heading : Heading) (lists : NodeLists) (l bytes : List ℕ) (nodes : ℕ) → nodes ≡ heading.nodes
     → ((k : ℕ) → k < chart_length nodes → get_or bytes k 0 ≡ byte_of (chart_word (header_given heading) (listed lists)) k)
-    → first_case (refuse_writing l) (room_cases nodes l) (record { answer = Bytes (chart_length nodes); chart = patch l 0 (chart_length nodes) (λ k. get_or bytes k 0) })
+    → first_case (refuse_writing l) (room_cases nodes l) (record { answer = Ok (chart_length nodes); chart = patch l 0 (chart_length nodes) (λ k. get_or bytes k 0) })
     ≡ first_case (refuse_writing l) (room_cases nodes l) (stored heading lists l)
 answer-stored heading lists l bytes nodes same are = go (ltb (length l) (chart_length nodes)) refl
   where
     go : (t : Bool) → ltb (length l) (chart_length nodes) ≡ t
-        → cond t (refuse_writing l ShortBuffer) (record { answer = Bytes (chart_length nodes); chart = patch l 0 (chart_length nodes) (λ k. get_or bytes k 0) }) ≡ cond t (refuse_writing l ShortBuffer) (stored heading lists l)
+        → cond t (refuse_writing l ShortBuffer) (record { answer = Ok (chart_length nodes); chart = patch l 0 (chart_length nodes) (λ k. get_or bytes k 0) }) ≡ cond t (refuse_writing l ShortBuffer) (stored heading lists l)
     go true e = refl
     go false e =
         let list : patch l 0 (chart_length nodes) (λ k. get_or bytes k 0) ≡ written (chart_bytes (header_given heading) (listed lists) nodes) l =
         patch-same l 0 (chart_length nodes) (λ k. get_or bytes k 0) (byte_of (chart_word (header_given heading) (listed lists))) are
         ∙ patch-written l (chart_length nodes) (byte_of (chart_word (header_given heading) (listed lists))) (ltb-false (length l) (chart_length nodes) e) in
-        (λ i. record { answer = Bytes (chart_length nodes); chart = list i })
-        ∙ λ i. record { answer = Bytes (chart_length (same i)); chart = written (chart_bytes (header_given heading) (listed lists) (same i)) l }
+        (λ i. record { answer = Ok (chart_length nodes); chart = list i })
+        ∙ λ i. record { answer = Ok (chart_length (same i)); chart = written (chart_bytes (header_given heading) (listed lists) (same i)) l }

@@ -3,4 +3,5 @@ pub mod Given
 pub mod Writer
 pub mod Taken
 pub mod Contract
+pub mod Held
 pub mod Sounded

@@ -2,16 +2,16 @@
 -- what is refused where one number of the loop is another, too wide or not; lists and buffers of other lengths; and which refusal goes before
 -- which. Nothing here is a rule of the tool: these are examples of rules 1.1, 11.0 and 15.3 to 15.6, and `WriterSounded` holds the definitions to
 -- them.
-use Rattle.std.specs.Prelude.{ℕ, ◌*◌, ◌^◌, List, [], ◌∷◌, ◌++◌, ◌≡◌, replicate, take}
+use Rattle.std.specs.Prelude.{ℕ, ◌*◌, ◌^◌, List, [], ◌∷◌, ◌++◌, ◌≡◌, replicate, take, Result}
 use Rattle.lists.specs.Slices.{Slice, MutSlice}
 use Rattle.lists.specs.Lists.{list_of}
 use Rattle.lists.specs.Soundings.{Sounding, ◌reads◌, Hold}
 use Rattle.writer.specs.declared.heading.Heading.{Heading}
-use Rattle.writer.specs.declared.writing.Wrote.{Wrote}
 use Rattle.writer.specs.Packing.{chart_bytes}
 use Rattle.writer.specs.Given.{NodeLists, header_given, listed}
 use Rattle.writer.specs.Writer.{wrote, write_says}
 use Rattle.writer.specs.Contract.{six_lists, entry_lists, exit_writing}
+use Rattle.refusals.specs.declared.Refusal.{Refusal}
 
 -- ---- the loop
 
@@ -225,7 +225,7 @@ crowds = (crowd_out 64 reads (11 ∷ 0 ∷ [])) ∷ (crowd_out 65 reads (10 ∷ 
 
 pub record WriterSounded : Type 0 where
   -- what is left is the buffer at exit, whatever is answered
-  pub chart_left : (chart : MutSlice) (answer : Wrote) → exit_writing chart answer ≡ record { answer = answer; chart = chart.exit.now }
+  pub chart_left : (chart : MutSlice) (answer : Result ℕ Refusal) → exit_writing chart answer ≡ record { answer = answer; chart = chart.exit.now }
   -- each list that is lent is the one that its name says
   pub lists_lent : (kinds addresses sizes outs firsts seconds : Slice)
       → entry_lists kinds addresses sizes outs firsts seconds

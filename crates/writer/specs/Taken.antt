@@ -1,16 +1,15 @@
 -- What a chart gives the writer: its header and its nodes taken apart again. Rules 1.2, 2.1 to 2.3, 2.10 and 2.11 the other way round.
 -- Choices: a write is kind 2, any other reference kind 1; a reference whose last byte is neither its first nor the next has size code 2.
-use Rattle.std.specs.Prelude.{ℕ, ◌-◌, cond, eqb}
+use Rattle.std.specs.Prelude.{ℕ, ◌-◌, cond, eqb, None, Option, Some}
 use Rattle.lists.specs.Lists.{list_of}
 use Rattle.chart.specs.declared.headers.Header.{Header}
-use Rattle.chart.specs.declared.records.Record.{Record}
-use Rattle.chart.specs.declared.records.Record.TheVariants.{Step, Reference}
 use Rattle.chart.specs.declared.records.Node.{Node}
 use Rattle.chart.specs.declared.records.RecordFields.{RecordFields}
 use Rattle.chart.specs.Header.{start_code}
 use Rattle.chart.specs.Chart.{Chart}
 use Rattle.writer.specs.declared.heading.Heading.{Heading}
 use Rattle.writer.specs.Given.{NodeLists}
+use Rattle.chart.specs.declared.records.Reference.{Reference}
 
 -- Rule 1.2: the six numbers of a header.
 abbrev pub heading_of : Header → Heading
@@ -25,26 +24,26 @@ heading_of header =
     }
 
 -- Rule 2.2: the kind.
-abbrev pub kind_of : Record → ℕ
-kind_of Step = 0
-kind_of (Reference reference) = cond reference.write 2 1
+abbrev pub kind_of : Option Reference → ℕ
+kind_of None = 0
+kind_of (Some reference) = cond reference.write 2 1
 
 -- Rule 2.1: the address; a bare step has 0 (rule 2.3).
-abbrev pub address_of : Record → ℕ
-address_of Step = 0
-address_of (Reference reference) = reference.address
+abbrev pub address_of : Option Reference → ℕ
+address_of None = 0
+address_of (Some reference) = reference.address
 
 -- Rule 2.10: the size code of a reference that goes so many bytes beyond its first.
 abbrev pub code_of : ℕ → ℕ
 code_of more = cond (eqb more 0) 0 (cond (eqb more 1) 1 2)
 
 -- Rules 2.10 and 2.11: the size code; a bare step has 0.
-abbrev pub size_of : Record → ℕ
-size_of Step = 0
-size_of (Reference reference) = code_of (reference.last - reference.address)
+abbrev pub size_of : Option Reference → ℕ
+size_of None = 0
+size_of (Some reference) = code_of (reference.last - reference.address)
 
 -- Rule 2.1: the fields of a node's record.
-abbrev pub fields_of : Node → RecordFields
+abbrev pub fields_of : Node Reference → RecordFields
 fields_of node =
     record {
       kind = kind_of node.what;

@@ -1,7 +1,7 @@
 -- What the writer answers and what it leaves in the lent buffer, for any numbers, any lists and any buffer. Rules 11.2 to 11.11, 12.8 and
 -- 15.4 to 15.6.
 -- A choice: number and place are 0 where nothing is refused.
-use Rattle.std.specs.Prelude.{ℕ, List, [], ◌∷◌, ◌++◌, length, ltb}
+use Rattle.std.specs.Prelude.{ℕ, List, [], ◌∷◌, ◌++◌, length, ltb, Err, Ok, Result}
 use Rattle.lists.specs.Choice.{Case, ◌⇒◌, first_case}
 use Rattle.lists.specs.Lists.{written}
 use Rattle.refusals.specs.declared.Refusal.{Refusal}
@@ -10,14 +10,12 @@ use Rattle.refusals.specs.Refusals.{number_of, place_of}
 use Rattle.chart.specs.Layout.{chart_length}
 use Rattle.chart.specs.Chart.{field_cases}
 use Rattle.writer.specs.declared.heading.Heading.{Heading}
-use Rattle.writer.specs.declared.writing.Wrote.{Wrote}
-use Rattle.writer.specs.declared.writing.Wrote.TheVariants.{Bytes, Refused}
 use Rattle.writer.specs.Packing.{chart_bytes}
 use Rattle.writer.specs.Given.{NodeLists, header_given, listed, all_long}
 
 -- The answer, and the buffer at exit.
 pub record WriteLeft : Type 0 where
-  pub answer : Wrote
+  pub answer : Result ℕ Refusal
   pub chart : List ℕ
 
 -- Rule 11.11, of the buffer for so many nodes.
@@ -34,13 +32,13 @@ write_cases heading lists lent =
 abbrev pub stored : Heading → NodeLists → List ℕ → WriteLeft
 stored heading lists lent =
     record {
-      answer = Bytes (chart_length heading.nodes);
+      answer = Ok (chart_length heading.nodes);
       chart = written (chart_bytes (header_given heading) (listed lists) heading.nodes) lent;
     }
 
 -- Rule 15.6: after a refusal the buffer is as it was.
 abbrev pub refuse_writing : List ℕ → Refusal → WriteLeft
-refuse_writing lent refusal = record { answer = Refused refusal; chart = lent }
+refuse_writing lent refusal = record { answer = Err refusal; chart = lent }
 
 -- Rules 15.4 to 15.6: the first refusal that applies, or the chart.
 unfoldable pub wrote : Heading → NodeLists → List ℕ → WriteLeft
@@ -53,9 +51,9 @@ pub record WroteSaid : Type 0 where
   pub length : ℕ
 
 -- Rules 12.8 and 15.6: a refusal says its number and place, and nothing was written.
-abbrev pub wrote_says : Wrote → WroteSaid
-wrote_says (Bytes count) = record { number = 0; place = 0; length = count }
-wrote_says (Refused refusal) = record { number = number_of refusal; place = place_of refusal; length = 0 }
+abbrev pub wrote_says : Result ℕ Refusal → WroteSaid
+wrote_says (Ok count) = record { number = 0; place = 0; length = count }
+wrote_says (Err refusal) = record { number = number_of refusal; place = place_of refusal; length = 0 }
 
 abbrev pub write_says : Heading → NodeLists → List ℕ → WroteSaid
 write_says heading lists lent = wrote_says (wrote heading lists lent).answer

@@ -8,4 +8,4 @@ mod packing;
 mod writing;
 
 pub use heading::Heading;
-pub use writing::{Wrote, write};
+pub use writing::write;

@@ -41,12 +41,5 @@ pub(crate) fn put_word(chart: &mut [u8], n: usize, word: u64)
     ensures { chart.new ≡ patch chart.old (8 * n) 8 (λ k. field byte_widths k word) }
 {
     let place = 8 * n;
-    chart[place] = (word / 72057594037927936 % 256) as u8;
-    chart[place + 1] = (word / 281474976710656 % 256) as u8;
-    chart[place + 2] = (word / 1099511627776 % 256) as u8;
-    chart[place + 3] = (word / 4294967296 % 256) as u8;
-    chart[place + 4] = (word / 16777216 % 256) as u8;
-    chart[place + 5] = (word / 65536 % 256) as u8;
-    chart[place + 6] = (word / 256 % 256) as u8;
-    chart[place + 7] = (word % 256) as u8;
+    chart[place..place + 8].copy_from_slice(&word.to_be_bytes());
 }

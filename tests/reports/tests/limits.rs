@@ -96,7 +96,7 @@ const OTHERS: [(&str, &[usize]); 9] = [
         "crates/writer/must-fail/first_and_second_arrow_swapped.edit",
         &[65_536, 65_536],
     ),
-    ("crates/writer/src/packing.rt", &[65_536, 1_024, 65_536, 65_536]),
+    ("crates/writer/src/packing.rt", &[65_536, 1_024, 65_536]),
     ("tests/reports/tests/stack.rs", &[1_024]),
 ];
 

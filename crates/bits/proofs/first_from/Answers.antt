@@ -9,9 +9,9 @@ pub returns-then-rest-eq1 : goal.returns-then-rest-eq1
 returns-then-rest-eq1 c = record { within = omega arith; none_before = λ m l h. absurd (omega arith); is_in_set = λ h. (omega arith, rest-here c.args.set.now c.args.from c.if-rest-eq1.true) }
 
 pub returns-then-rest-ne0 : goal.returns-then-rest-ne0
-returns-then-rest-ne0 c = subst (FirstFrom c.args.set.now c.args.from c.args.count) (sym c.smaller.ensures)
-    (rest-first c.args.set.now c.args.from c.args.count (omega (arith, c.shared_slice_known-2-1.given (c.args.from / 64))) (λ e. c.if-rest-ne0.true e) (omega arith))
+returns-then-rest-ne0 c = subst (FirstFrom c.args.set.now c.args.from c.args.count) (sym c.min.ensures)
+    (rest-first c.args.set.now c.args.from c.args.count (omega (arith, c.type_inv.set (c.args.from / 64))) (λ e. c.if-rest-ne0.true e) (omega arith))
 
 pub returns : goal.returns
 returns c = first-after c.args.set.now c.args.from (64 * (c.args.from / 64 + 1)) c.args.count c.first_in_words.result (omega arith)
-    (rest-none c.args.set.now c.args.from c.args.count (omega (arith, c.shared_slice_known-2-1.given (c.args.from / 64))) (omega (arith, c.if-rest-ne0.false))) c.first_in_words.ensures
+    (rest-none c.args.set.now c.args.from c.args.count (omega (arith, c.type_inv.set (c.args.from / 64))) (omega (arith, c.if-rest-ne0.false))) c.first_in_words.ensures

@@ -1,4 +1,3 @@
-use borrow.Author.Rules.{rules}
 use mathlib.Core.Path.{sym, subst}
 use Prim.Native.Nat.{◌*◌, ◌≤◌, ◌<◌}
 use mathlib.Core.Logic.{⊎_elim}
@@ -10,10 +9,10 @@ use Rattle.bits.proofs.first_in_words.Goals as goal
 
 pub returns-then-bits-ne0 : goal.returns-then-bits-ne0
 returns-then-bits-ne0 c = let l = c.loop-word in
-    first-after c.args.set.now (64 * c.args.first) (64 * l.word) c.args.count c.smaller.result (omega arith) l.invariant.1.1
-    (subst (FirstFrom c.args.set.now (64 * l.word) c.args.count) (sym c.smaller.ensures)
-    (word_first c.args.set.now l.word c.args.count (omega (arith, c.shared_slice_known-1.given l.word)) (λ e. c.if-bits-ne0.true e) (omega arith)))
+    first-after c.args.set.now (64 * c.args.first) (64 * l.word) c.args.count c.min.result (omega arith) l.invariant
+    (subst (FirstFrom c.args.set.now (64 * l.word) c.args.count) (sym c.min.ensures)
+    (word_first c.args.set.now l.word c.args.count (omega (arith, c.type_inv.set l.word)) (λ e. c.if-bits-ne0.true e) (omega arith)))
 
 pub loop-word-preserved : goal.loop-word-preserved
 loop-word-preserved c = let l = c.loop-word in
-    (search rules, (search rules, λ m h k. ⊎_elim (λ (b : m < 64 * l.word). l.invariant.1.1 m h b) (λ (b : 64 * l.word ≤ m). word_none c.args.set.now l.word c.args.count (omega (arith, c.shared_slice_known-1.given l.word)) (omega (arith, c.if-bits-ne0.false)) m b k) (below_or m (64 * l.word))))
+    λ m h k. ⊎_elim (λ (b : m < 64 * l.word). l.invariant m h b) (λ (b : 64 * l.word ≤ m). word_none c.args.set.now l.word c.args.count (omega (arith, c.type_inv.set l.word)) (omega (arith, c.if-bits-ne0.false)) m b k) (below_or m (64 * l.word))

@@ -12,7 +12,7 @@ pub loop-left-preserved : goal.loop-left-preserved
 loop-left-preserved c = let l = c.loop-left in
     let middle = l.place + (l.left - l.left / 2) - 1 in
     let last = climbs c.args.blocks.now c.args.count c.args.block c.requires.count_in_bounds c.requires.ascending (c.args.count - 1) (omega (arith, l.invariant)) in
-    let short : l.left - l.left / 2 < 4294967296 = omega (arith, last, c.shared_slice_known-1.given (c.args.count - 1), l.invariant) in
+    let short : l.left - l.left / 2 < 4294967296 = omega (arith, last, c.type_inv.blocks (c.args.count - 1), l.invariant) in
     search-turn c.args.blocks.now c.args.count c.args.block c.requires.count_in_bounds c.requires.ascending l.place l.left middle c.below_mask.result c.below_mask.ensures l.invariant (omega arith) (omega arith) short
 
 pub loop-left-smaller : goal.loop-left-smaller

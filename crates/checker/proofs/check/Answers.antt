@@ -1,22 +1,25 @@
-use mathlib.Core.Path.{◌∙◌, ap}
+use Rattle.std.specs.Prelude.{Err}
+use Rattle.std.proofs.Common.{rules}
+use mathlib.Core.Path.{◌≡◌, ◌∙◌, ap}
 use Rattle.chart.proofs.Answers.{reader-accepts, reader-refuses}
+use Rattle.tables.specs.Lent.{Lent}
 use Rattle.checker.specs.Checker.{checked, checked_says}
 use Rattle.checker.proofs.Answers.{checked-drawn}
 use Rattle.checker.proofs.check.Goals as goal
 
-pub check_drawn-requires : goal.check_drawn-requires
-check_drawn-requires c = c.draw-reading.ensures.draws.drawn _ (reader-accepts _ c.draw-reading.result c.draw-reading.ensures.value _ _ c.in_default.is).read
+pub invariant_of-plan : goal.invariant_of-plan
+invariant_of-plan c = record { drawn = c.draw.ensures.draws.drawn _ (reader-accepts _ c.draw.result c.draw.ensures.value _ c.in_ok-draw.was).read }
 
-pub returns-in_default : goal.returns-in_default
-returns-in_default c =
+pub returns-in_err-draw : goal.returns-in_err-draw
+unfolding checked
+returns-in_err-draw c =
+    let given : c.from_residual.result ≡ Err c.in_err-draw.field-0.0 = search rules in
+    let lent : Lent = record { must = c.args.must.now; may = c.args.may.now; marks = c.args.marks.now } in
+    let refused : Err c.in_err-draw.field-0.0 ≡ checked c.args.chart.now lent = rw (reader-refuses _ c.draw.result c.draw.ensures.value _ c.in_err-draw.was) in
+    record { value = given ∙ refused; result_value = ap checked_says (given ∙ refused) }
+
+pub returns : goal.returns
+returns c =
     let a = c.args in
-    let e = c.check_drawn.ensures ∙ checked-drawn (record { must = a.must.now; may = a.may.now; marks = a.marks.now }) c.draw-reading.ensures.draws (reader-accepts _ c.draw-reading.result c.draw-reading.ensures.value _ _ c.in_default.is).read in
+    let e = c.check_drawn.ensures ∙ checked-drawn (record { must = a.must.now; may = a.may.now; marks = a.marks.now }) c.draw.ensures.draws (reader-accepts _ c.draw.result c.draw.ensures.value _ c.in_ok-draw.was).read in
     record { value = e; result_value = ap checked_says e }
-
-pub returns-clause-value : goal.returns-clause-value
-unfolding checked
-returns-clause-value c = rw (reader-refuses _ c.draw-reading.result c.draw-reading.ensures.value _ c.in-Refused.is)
-
-pub returns-clause-result_value : goal.returns-clause-result_value
-unfolding checked
-returns-clause-result_value c = rw (reader-refuses _ c.draw-reading.result c.draw-reading.ensures.value _ c.in-Refused.is)

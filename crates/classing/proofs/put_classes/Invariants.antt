@@ -7,6 +7,7 @@ use Rattle.chart.specs.Geometry.{most_touches}
 use Rattle.flow.specs.Flow.{cell_at}
 use Rattle.plan.specs.Listed.{plan_in}
 use Rattle.tables.specs.Lent.{Lent, table_of}
+use Rattle.tables.specs.AsTable.{lent_as}
 use Rattle.classing.specs.Both.{node_age_class}
 use Rattle.classing.proofs.put_classes.Given as goal
 
@@ -20,7 +21,7 @@ class_at columns plan lent i = class_of columns plan lent (i / most_touches) (i 
 abbrev pub invariant-loop-n : goal.invariant-loop-n
 invariant-loop-n l = (l.n ≤ l.nodes)
     × ((length l.classes ≡ length l.initial.classes)
-    × (l.classes ≡ patch l.initial.classes 0 (most_touches * l.n) (class_at l.columns l.plan (record { must = l.must; may = l.may; marks = l.marks }))))
+    × (l.classes ≡ patch l.initial.classes 0 (most_touches * l.n) (class_at l.table.plan.columns.now l.table.plan.numbers.now (lent_as l.table.table))))
 
 abbrev pub decreases-loop-n : goal.decreases-loop-n
 decreases-loop-n l = l.nodes - l.n

@@ -1,13 +1,11 @@
 use borrow.Author.Rules.{rules}
-use mathlib.Core.Path.{sym}
-use lib.Ieee.{nan_bits, of_bits}
-use Rattle.clock.proofs.Times.{improper-is}
+use mathlib.Core.Bool.{true}
+use mathlib.Core.Path.{◌≡◌, sym}
+use lib.Ieee.{of_bits}
+use Rattle.std.specs.Float.{float_is_finite}
+use Rattle.clock.proofs.Times.{improper_by}
 use Rattle.clock.proofs.is_improper.Goals as goal
 
-pub float_from_bits-infinity : goal.float_from_bits-infinity
-unfolding nan_bits
-float_from_bits-infinity c = search rules
-
-pub returns : goal.returns
+pub returns-else-not-is_finite : goal.returns-else-not-is_finite
 unfolding of_bits
-returns c = sym (improper-is c.args.time)
+returns-else-not-is_finite c = let finite : float_is_finite c.args.time ≡ true = search rules in sym (rw finite at (improper_by c.args.time))

@@ -1,7 +1,6 @@
-use Prim.Native.Nat.{ℕ, ◌≤◌, ◌-◌}
+use Prim.Native.Nat.{ℕ}
 use mathlib.Core.List.{List}
 use mathlib.Core.Path.{◌≡◌}
-use lib.ListN.{length}
 use Rattle.lists.specs.Loops.{patch}
 use Rattle.cache.specs.Ages.{must_after, may_after}
 use Rattle.rows.specs.Rows.{key_by, may_limit_by, age_from}
@@ -15,8 +14,7 @@ abbrev pub may_touched : List ℕ → ℕ → ℕ → List ℕ → ℕ → ℕ
 may_touched columns m base row = may_after (key_by columns) (may_limit_by columns) m (age_from base row)
 
 abbrev pub invariant-loop-j : goal.invariant-loop-j
-invariant-loop-j l = (l.j ≤ l.width) × ((length l.musts ≡ length l.initial.musts) × ((length l.mays ≡ length l.initial.mays)
-    × ((l.musts ≡ patch l.initial.musts 0 l.j (must_touched l.columns l.m l.base l.must)) × (l.mays ≡ patch l.initial.mays 0 l.j (may_touched l.columns l.m l.base l.may)))))
-
-abbrev pub decreases-loop-j : goal.decreases-loop-j
-decreases-loop-j l = l.width - l.j
+invariant-loop-j l = record {
+  musts : l.musts ≡ patch l.initial.musts 0 l.j (must_touched l.columns l.m l.base l.must);
+  mays : l.mays ≡ patch l.initial.mays 0 l.j (may_touched l.columns l.m l.base l.may);
+}

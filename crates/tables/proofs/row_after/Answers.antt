@@ -10,9 +10,9 @@ returns-in_default c = let a = c.args in
 
 pub returns-then-lower-upper : goal.returns-then-lower-upper
 returns-then-lower-upper c = let a = c.args in
-    let both = rw c.in-Reference.is at c.requires.record_in in
+    let both = rw c.in-Some.is at c.requires.record_in in
     let one = c.take_ages-then-lower-upper in
     let other = c.take_ages-then-lower-upper-2 in
-    rw (c.in-Reference.is, ne_eqb _ _ c.if-lower-upper.true)
-    (twice-agrees a.blocks a.columns.now c.in-Reference.reference.upper both.1 c.requires.loads.few _ _ one.new.taken other.new.taken _ _
+    rw (c.in-Some.is, ne_eqb _ _ c.if-lower-upper.true)
+    (twice-agrees a.blocks a.columns.now c.in-Some.reference.upper both.1 c.requires.loads.few _ _ one.new.taken other.new.taken _ _
     c.touch_row.ensures one.ensures other.ensures c.touch_row-then-lower-upper.ensures)

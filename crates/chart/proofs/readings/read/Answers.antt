@@ -9,18 +9,18 @@ abbrev reading_says : Reading → ReadSaid
 reading_says answer = verdict_says answer.verdict
 
 pub read_records-requires : goal.read_records-requires
-read_records-requires c = read_length c.args.chart.now _ (sym c.read_header-header.ensures.value ∙ c.in-Accepted.is)
+read_records-requires c = read_length c.args.chart.now _ (sym c.read_header-header.ensures.value ∙ c.in-Ok.is)
 
-pub returns-in-Accepted : goal.returns-in-Accepted
-returns-in-Accepted c =
+pub returns-in-Ok : goal.returns-in-Ok
+returns-in-Ok c =
     let e : c.read_records.result ≡ reading c.args.chart.now =
-    rw (read-accepts c.args.chart.now _ (sym c.read_header-header.ensures.value ∙ c.in-Accepted.is)) c.read_records.ensures
+    rw (read-accepts c.args.chart.now _ (sym c.read_header-header.ensures.value ∙ c.in-Ok.is)) c.read_records.ensures
     in
     record { value = e; verdict_value = ap reading_says e }
 
-pub returns-in-Refused : goal.returns-in-Refused
-returns-in-Refused c =
+pub returns-in-Err : goal.returns-in-Err
+returns-in-Err c =
     let e : c.refuse.result ≡ reading c.args.chart.now =
-    rw (read-refuses c.args.chart.now _ (sym c.read_header-header.ensures.value ∙ c.in-Refused.is)) c.refuse.ensures
+    rw (read-refuses c.args.chart.now _ (sym c.read_header-header.ensures.value ∙ c.in-Err.is)) c.refuse.ensures
     in
     record { value = e; verdict_value = ap reading_says e }

@@ -1,10 +1,10 @@
-use Prim.Native.Nat.{ℕ, ◌-◌, ◌≤◌}
+use Prim.Native.Nat.{ℕ, ◌≤◌}
 use mathlib.Core.Bool.{Bool, true}
 use mathlib.Core.List.{List}
 use mathlib.Core.Path.{◌≡◌}
 use lib.Dec.{eqb}
 use lib.IntN.{ℤ, pos}
-use lib.ListN.{get_or, length}
+use lib.ListN.{get_or}
 use Rattle.lists.specs.Choice.{every}
 use Rattle.lists.specs.Lists.{sum_of}
 use Rattle.facts.specs.Parts.{above, below}
@@ -17,8 +17,9 @@ plain multipliers k = eqb (below (get_or multipliers k (pos 0))) 0
 abbrev pub weight : List ℤ → ℕ → ℕ
 weight multipliers k = above (get_or multipliers k (pos 0))
 
-abbrev pub invariant-loop-f : goal.invariant-loop-f
-invariant-loop-f l = (l.f ≤ l.f-end) × ((l.f-end ≡ length l.multipliers) × ((every l.f (plain l.multipliers) ≡ true) × ((l.sum ≡ sum_of l.f (weight l.multipliers)) × (l.sum ≤ most_multipliers))))
-
-abbrev pub decreases-loop-f : goal.decreases-loop-f
-decreases-loop-f l = l.f-end - l.f
+abbrev pub invariant-loop-multiplier : goal.invariant-loop-multiplier
+invariant-loop-multiplier l = record {
+  none : every l.multiplier-index (plain l.multipliers) ≡ true;
+  added : l.sum ≡ sum_of l.multiplier-index (weight l.multipliers);
+  most : l.sum ≤ most_multipliers;
+}

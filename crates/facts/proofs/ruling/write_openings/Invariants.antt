@@ -1,9 +1,8 @@
-use Prim.Native.Nat.{ℕ, ◌-◌, ◌≤◌}
+use Prim.Native.Nat.{ℕ}
 use mathlib.Core.Bool.{cond}
 use mathlib.Core.List.{List}
 use mathlib.Core.Path.{◌≡◌}
 use lib.IntN.{ℤ}
-use lib.ListN.{length}
 use Rattle.lists.specs.Loops.{patch}
 use Rattle.facts.specs.Facts.{ruled_out}
 use Rattle.facts.proofs.ruling.write_openings.Given as goal
@@ -12,7 +11,4 @@ abbrev pub opening_of : List ℤ → List ℤ → ℕ → ℕ → ℕ
 opening_of coefficients limits nodes k = cond (ruled_out nodes (record { coefficients = coefficients; limits = limits }) k) 0 1
 
 abbrev pub invariant-loop-n : goal.invariant-loop-n
-invariant-loop-n l = (l.n ≤ l.nodes) × ((length l.out ≡ length l.initial.out) × (l.out ≡ patch l.initial.out 0 l.n (opening_of l.coefficients l.limits l.nodes)))
-
-abbrev pub decreases-loop-n : goal.decreases-loop-n
-decreases-loop-n l = l.nodes - l.n
+invariant-loop-n l = l.open-items ≡ patch l.initial.open-items 0 l.n (opening_of l.coefficients l.limits l.nodes)

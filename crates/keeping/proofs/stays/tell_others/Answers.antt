@@ -11,45 +11,36 @@ flood_again-requires-clause-group_in c = let a = c.args in
     let l = c.loop-block in
     let blocks = c.blocks_in-blocks in
     let nodes = c.nodes_in-nodes in
-    let choosing = c.choose in
     let inside : l.block < blocks_in a.plan.now = omega (arith, c.loop-block-test.true, blocks.ensures) in
-    let round = round-chosen a.columns.now a.sets.now (blocks_in a.plan.now) blocks.result blocks.ensures c.requires.sets_listed (λ key. omega (arith, c.shared_slice_known-3-1.given key)) (λ m. omega (arith, c.shared_slice_known-1.given m)) l.left l.block inside l.chosen _ (omega (arith, c.requires.plan_in_bounds.0, l.invariant.0.0)) choosing.ensures in
-    let room = c.requires.room_for in (round.0, omega (arith, inside))
+    let round = round-chosen a.columns.now a.sets.now (blocks_in a.plan.now) blocks.result blocks.ensures c.requires.drawn_in.few_blocks c.requires.sets_listed (λ key. omega (arith, c.fits-sets key)) (λ m. omega (arith, c.type_inv.columns m)) l.left l.block inside _ c.choose.ensures in
+    (round.0, omega (arith, inside))
 
 pub tell_chosen-requires-clause-records_touchable : goal.tell_chosen-requires-clause-records_touchable
 tell_chosen-requires-clause-records_touchable c = let a = c.args in
     let l = c.loop-block in
     let blocks = c.blocks_in-blocks in
     let nodes = c.nodes_in-nodes in
-    let choosing = c.choose in
     let inside : l.block < blocks_in a.plan.now = omega (arith, c.loop-block-test.true, blocks.ensures) in
-    let round = round-chosen a.columns.now a.sets.now (blocks_in a.plan.now) blocks.result blocks.ensures c.requires.sets_listed (λ key. omega (arith, c.shared_slice_known-3-1.given key)) (λ m. omega (arith, c.shared_slice_known-1.given m)) l.left l.block inside l.chosen _ (omega (arith, c.requires.plan_in_bounds.0, l.invariant.0.0)) choosing.ensures in
-    let flooding = c.flood_again in records-touchable a.columns.now a.plan.now c.requires.drawn_in _ a.sets.now round.0 nodes.result nodes.ensures
+    let round = round-chosen a.columns.now a.sets.now (blocks_in a.plan.now) blocks.result blocks.ensures c.requires.drawn_in.few_blocks c.requires.sets_listed (λ key. omega (arith, c.fits-sets key)) (λ m. omega (arith, c.type_inv.columns m)) l.left l.block inside _ c.choose.ensures in
+    records-touchable a.columns.now a.plan.now c.requires.drawn_in _ a.sets.now round.0 nodes.result nodes.ensures
 
 pub loop-block-preserved : goal.loop-block-preserved
 loop-block-preserved c = let a = c.args in
     let l = c.loop-block in
     let blocks = c.blocks_in-blocks in
     let nodes = c.nodes_in-nodes in
-    let choosing = c.choose in
     let inside : l.block < blocks_in a.plan.now = omega (arith, c.loop-block-test.true, blocks.ensures) in
-    let round = round-chosen a.columns.now a.sets.now (blocks_in a.plan.now) blocks.result blocks.ensures c.requires.sets_listed (λ key. omega (arith, c.shared_slice_known-3-1.given key)) (λ m. omega (arith, c.shared_slice_known-1.given m)) l.left l.block inside l.chosen _ (omega (arith, c.requires.plan_in_bounds.0, l.invariant.0.0)) choosing.ensures in
+    let round = round-chosen a.columns.now a.sets.now (blocks_in a.plan.now) blocks.result blocks.ensures c.requires.drawn_in.few_blocks c.requires.sets_listed (λ key. omega (arith, c.fits-sets key)) (λ m. omega (arith, c.type_inv.columns m)) l.left l.block inside _ c.choose.ensures in
     let flooding = c.flood_again in
     let telling = c.tell_chosen in
     let taking = c.left_after-left in
     let next = c.next_wanted-block-in-loop-block in (
-      (
-        omega (arith, choosing.auto, l.invariant.0.0),
-        (omega (arith, flooding.auto, l.invariant.0.1.0), (omega (arith, flooding.auto, l.invariant.0.1.1.0), (omega (arith, flooding.auto, l.invariant.0.1.1.1.0), omega (arith, telling.auto, l.invariant.0.1.1.1.1)))),
-      ),
-      (
-        all-reached a.columns.now a.plan.now c.requires.drawn_in _ a.sets.now round.0 (omega (arith, inside)) _ _ flooding.ensures,
-        told-up-to a.columns.now a.plan.now c.requires.drawn_in a.wanted taking.result (l.block + 1) blocks.result next.result _ next.ensures
-            (told-on a.columns.now a.plan.now c.requires.drawn_in _ a.sets.now round.0 _ _ l.stays _ nodes.result blocks.result a.wanted l.left taking.result l.block nodes.ensures blocks.ensures (omega (arith, c.requires.plan_in_bounds.1, l.invariant.0.1.1.1.1)) flooding.ensures telling.ensures round.1 taking.ensures l.invariant.1.1),
-      ),
+      all-reached a.columns.now a.plan.now c.requires.drawn_in _ a.sets.now round.0 (omega (arith, inside)) _ _ flooding.ensures,
+      told-up-to a.columns.now a.plan.now c.requires.drawn_in a.wanted taking.result (l.block + 1) blocks.result next.result _ next.ensures
+          (told-on a.columns.now a.plan.now c.requires.drawn_in _ a.sets.now round.0 _ _ l.stays _ nodes.result blocks.result a.wanted l.left taking.result l.block nodes.ensures blocks.ensures (omega (arith, c.requires.plan_in_bounds, l.auto.stays)) flooding.ensures telling.ensures round.1 taking.ensures l.invariant.1),
     )
 
 pub returns : goal.returns
 returns c = let a = c.args in
     let l = c.loop-block in
-    all_told a.columns.now a.plan.now c.requires.drawn_in a.wanted l.left l.block l.stays (omega (arith, c.blocks_in-blocks.ensures)) l.invariant.1.1
+    all_told a.columns.now a.plan.now c.requires.drawn_in a.wanted l.left l.block l.stays (omega (arith, c.blocks_in-blocks.ensures)) l.invariant.1

@@ -1,8 +1,6 @@
-use mathlib.Core.Path.{sym, ap, ◌∙◌}
-use Rattle.chart.proofs.Reader.{read-nodes}
-use Rattle.report.specs.Written.{nodes_read}
+use borrow.Author.Rules.{rules}
+use Rattle.report.proofs.Inputs.{nodes-read}
 use Rattle.report.proofs.input.nodes_of.Goals as goal
 
-pub returns-in-Accepted : goal.returns-in-Accepted
-returns-in-Accepted c = let e = sym c.read_header-read.ensures.value ∙ c.in-Accepted.is in
-    (read-nodes c.args.chart.now _ e, sym (ap nodes_read e))
+pub returns : goal.returns
+returns c = nodes-read c.args.chart.now _ _ c.read_header.ensures.value c.map_or.ensures (λ header told. search rules) (λ refusal told. told)

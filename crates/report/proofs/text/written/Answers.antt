@@ -1,12 +1,10 @@
+use mathlib.Core.Path.{refl}
 use native.Mathlib.Omega.{arith}
-use Rattle.report.proofs.Zeros.{report-put}
+use borrow.Author.Rules.{rules}
+use Rattle.report.proofs.Zeros.{text-put}
 use Rattle.report.proofs.text.written.Goals as goal
 
-pub returns-in-Settled-clause-value : goal.returns-in-Settled-clause-value
-returns-in-Settled-clause-value c = let a = c.args in report-put a.nodes a.classes.now a.answer _ _ c.in-Settled.is c.refused_by-refused.ensures c.put_settled-size.ensures (omega arith)
-
-pub returns-in-Unsettled-clause-value : goal.returns-in-Unsettled-clause-value
-returns-in-Unsettled-clause-value c = let a = c.args in report-put a.nodes a.classes.now a.answer _ _ c.in-Unsettled.is c.refused_by-refused.ensures c.put_refused-size.ensures (omega arith)
-
-pub returns-in-Refused-clause-value : goal.returns-in-Refused-clause-value
-returns-in-Refused-clause-value c = let a = c.args in report-put a.nodes a.classes.now a.answer _ _ c.in-Refused.is c.refused_by-refused.ensures c.put_refused-size-in-Refused.ensures (omega arith)
+pub returns-clause-value : goal.returns-clause-value
+returns-clause-value c =
+    let done = c.put_report.ensures in
+    text-put (search rules) done refl refl (omega arith) c.is_err-refused.ensures.value

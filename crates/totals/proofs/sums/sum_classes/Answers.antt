@@ -5,7 +5,7 @@ use native.Mathlib.Omega.{arith}
 use lib.ListN.{get_or}
 use Rattle.chart.specs.Geometry.{most_touches}
 use Rattle.costs.specs.Costs.{Costs}
-use Rattle.totals.specs.declared.sums.Sums.{Sums}
+use Rattle.totals.specs.declared.Totals.{Totals}
 use Rattle.totals.specs.Inner.{costs_of, figures_of, Small, touch_added}
 use Rattle.totals.proofs.Summing.{small-more, small-turn, sums-turn}
 use Rattle.totals.proofs.sums.sum_classes.Goals as goal
@@ -36,7 +36,7 @@ loop-n-preserved c =
       (
         small-more (most_touches * l.n + 1 + 1) (most_touches * (l.n + 1)) c.add_touch-sums.result (omega arith) small,
         c.add_touch-sums.ensures
-            ∙ ap (λ (sums : Sums). touch_added costs second floor ceiling sums) once.ensures
+            ∙ ap (λ (sums : Totals). touch_added costs second floor ceiling sums) once.ensures
             ∙ sums-turn a.classes.now (figures_of a.tariff a.floors.now a.ceilings.now) l.n l.sums l.invariant.1.1,
       ),
     )

@@ -1,4 +1,6 @@
-use mathlib.Core.Path.{ap}
+use Rattle.std.specs.Prelude.{Err}
+use Rattle.std.proofs.Common.{rules}
+use mathlib.Core.Path.{ap, ◌≡◌, ◌∙◌}
 use Rattle.writer.specs.Writer.{WriteLeft, wrote_says}
 use Rattle.writer.specs.Contract.{lent_lists}
 use Rattle.writer.proofs.Headed.{header_refused, header-long, header-rest}
@@ -8,38 +10,30 @@ pub write_nodes-requires-clause-all_long : goal.write_nodes-requires-clause-all_
 write_nodes-requires-clause-all_long c =
     let lists = lent_lists c.args.kinds c.args.addresses c.args.sizes c.args.outs c.args.firsts c.args.seconds in
     let fields = c.header_given in
-    let long = c.all_long-long in
-    let answer = c.header_of-read in
-    let taken = c.in-Accepted.is in header-long c.args.heading lists fields.result long.result answer.result fields.ensures long.ensures answer.ensures _ taken
+    let long = c.all_long in
+    let answer = c.header_of in
+    header-long c.args.heading lists fields.result long.result answer.result fields.ensures long.ensures answer.ensures _ c.in_ok-header.was
 
-pub returns-in-Refused-clause-result_value : goal.returns-in-Refused-clause-result_value
-returns-in-Refused-clause-result_value c =
+pub returns-in_err-header : goal.returns-in_err-header
+returns-in_err-header c =
     let lists = lent_lists c.args.kinds c.args.addresses c.args.sizes c.args.outs c.args.firsts c.args.seconds in
     let fields = c.header_given in
-    let long = c.all_long-long in
-    let answer = c.header_of-read in
-    let refused = header_refused c.args.heading lists fields.result long.result answer.result fields.ensures long.ensures answer.ensures c.args.chart.now _ c.in-Refused.is in refused
+    let long = c.all_long in
+    let answer = c.header_of in
+    let given : c.from_residual.result ≡ Err c.in_err-header.field-0.0 = search rules in
+    let refused =
+    ap (λ answer. record { answer = answer; chart = c.args.chart.now }) given
+    ∙ header_refused c.args.heading lists fields.result long.result answer.result fields.ensures long.ensures answer.ensures c.args.chart.now _ c.in_err-header.was
+    in
+    record { result_value = refused; result_value_2 = ap (λ (left : WriteLeft). wrote_says left.answer) refused }
 
-pub returns-in-Refused-clause-result_value_2 : goal.returns-in-Refused-clause-result_value_2
-returns-in-Refused-clause-result_value_2 c =
+pub returns : goal.returns
+returns c =
     let lists = lent_lists c.args.kinds c.args.addresses c.args.sizes c.args.outs c.args.firsts c.args.seconds in
     let fields = c.header_given in
-    let long = c.all_long-long in
-    let answer = c.header_of-read in
-    let refused = header_refused c.args.heading lists fields.result long.result answer.result fields.ensures long.ensures answer.ensures c.args.chart.now _ c.in-Refused.is in ap (λ (left : WriteLeft). wrote_says left.answer) refused
-
-pub returns-in-Accepted-clause-result_value : goal.returns-in-Accepted-clause-result_value
-returns-in-Accepted-clause-result_value c =
-    let lists = lent_lists c.args.kinds c.args.addresses c.args.sizes c.args.outs c.args.firsts c.args.seconds in
-    let fields = c.header_given in
-    let long = c.all_long-long in
-    let answer = c.header_of-read in
-    let whole = header-rest c.args.heading lists fields.result long.result answer.result fields.ensures long.ensures answer.ensures _ c.in-Accepted.is c.args.chart.now _ c.write_nodes.ensures in whole
-
-pub returns-in-Accepted-clause-result_value_2 : goal.returns-in-Accepted-clause-result_value_2
-returns-in-Accepted-clause-result_value_2 c =
-    let lists = lent_lists c.args.kinds c.args.addresses c.args.sizes c.args.outs c.args.firsts c.args.seconds in
-    let fields = c.header_given in
-    let long = c.all_long-long in
-    let answer = c.header_of-read in
-    let whole = header-rest c.args.heading lists fields.result long.result answer.result fields.ensures long.ensures answer.ensures _ c.in-Accepted.is c.args.chart.now _ c.write_nodes.ensures in ap (λ (left : WriteLeft). wrote_says left.answer) whole
+    let long = c.all_long in
+    let answer = c.header_of in
+    let whole =
+    header-rest c.args.heading lists fields.result long.result answer.result fields.ensures long.ensures answer.ensures _ c.in_ok-header.was c.args.chart.now _ c.write_nodes.ensures
+    in
+    record { result_value = whole; result_value_2 = ap (λ (left : WriteLeft). wrote_says left.answer) whole }

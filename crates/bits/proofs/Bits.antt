@@ -1,17 +1,17 @@
 -- Laws of the bits of a word: of two words together, of one bit alone, of a word shifted, and of the lowest bit that is set.
 use mathlib.Core.Bool.{Bool, true, false, cond, not, ◌&&◌, ◌||◌}
-use mathlib.Core.Path.{◌≡◌, refl, ap, ◌∙◌}
+use mathlib.Core.Path.{◌≡◌, refl, sym, ap, ◌∙◌}
 use Prim.Native.Nat.{ℕ, zero, suc, ◌+◌, ◌/◌, ◌%◌, ◌^◌, ◌≤◌, ◌<◌}
 use native.Mathlib.Decide.{ℕ_discrete}
+use native.Mathlib.Nat.{div-one, mod-lt, div-add-mod'}
 use native.Mathlib.Omega.{arith}
 use borrow.Author.Tests.{eq-eqb, ne_eqb}
 use lib.Bits.{bit_and, bit_or, bit_xor, or_add_and, and_le_r}
 use lib.Count.{count_trailing_zeros}
 use lib.Dec.{eqb}
-use lib.Pow.{shr-shr}
-use mir.Syntax.{w64}
+use lib.Pow.{shr-shr, shr_lt}
 use Rattle.std.proofs.lemmas.Bool.Decides.{nat_tests}
-use Rattle.std.proofs.lemmas.Nat.Bits.{bit_at-lt, bit_at-zero, bit_at_and, bit_at_or, bit_at_xor, bit_at_above, bit_at-pow_same, bit_at-pow_other, bit_at-trailing_zeros}
+use Rattle.std.proofs.lemmas.Nat.Bits.{bit_at-lt, bit_at-zero, bit_at_and, bit_at_or, bit_at_xor, bit_at_above, bit_at-pow_same, bit_at-pow_other}
 use Rattle.bits.specs.Bits.{bit_at, is_set, without}
 
 -- A bit is 1 where it is set, and 0 where not.
@@ -66,10 +66,35 @@ set-one m j = go (ℕ_discrete j m)
 pub set-shifted : (word k j : ℕ) → is_set (word / 2 ^ k) j ≡ is_set word (k + j)
 set-shifted word k j = ap (λ (x : ℕ). eqb (x % 2) 1) (shr-shr word k j)
 
--- The bit that as many zeros stand below as are counted is set, and none below it is.
-module _ (word : ℕ) (h : word < 2 ^ 64) (some : word ≡ 0 → ⊥) where
-  pub trailing-set : is_set word (count_trailing_zeros 64 word) ≡ true
-  trailing-set = ap (λ (bit : ℕ). eqb bit 1) (bit_at-trailing_zeros w64 word (omega arith) h).1
+halved : (word j : ℕ) → is_set (word / 2) j ≡ is_set word (suc j)
+halved word j = set-shifted word 1 j ∙ (let e : 1 + j ≡ suc j = omega arith in rw e)
 
-  pub trailing-none : (j : ℕ) → j < count_trailing_zeros 64 word → is_set word j ≡ false
-  trailing-none j l = ap (λ (bit : ℕ). eqb bit 1) ((bit_at-trailing_zeros w64 word (omega arith) h).2 j l)
+lowest : (word : ℕ) → is_set word 0 ≡ eqb (word % 2) 1
+lowest word = ap (λ (x : ℕ). eqb (x % 2) 1) (div-one word)
+
+-- The bit that as many zeros stand below as are counted is set.
+pub trailing-set : (k word : ℕ) → word < 2 ^ k → (word ≡ 0 → ⊥) → is_set word (count_trailing_zeros k word) ≡ true
+unfolding count_trailing_zeros
+trailing-set zero word h some = absurd (some (omega arith))
+trailing-set (suc k) word h some = go (λ half some_left. trailing-set k (word / 2) half some_left) (word % 2) refl (mod-lt word (omega arith))
+  where
+    go : (word / 2 < 2 ^ k → (word / 2 ≡ 0 → ⊥) → is_set (word / 2) (count_trailing_zeros k (word / 2)) ≡ true)
+        → (bit : ℕ) → word % 2 ≡ bit → bit < 2 → is_set word (count_trailing_zeros (suc k) word) ≡ true
+    go rest zero e l =
+        let half : word / 2 < 2 ^ k = shr_lt k 1 (let s : k + 1 ≡ suc k = omega arith in rw s h) in
+        let some_left : word / 2 ≡ 0 → ⊥ = λ z. some (let d = div-add-mod' word 2 in omega arith) in
+        rw e (sym (halved word (count_trailing_zeros k (word / 2))) ∙ rest half some_left)
+    go rest (suc zero) e l = rw e (lowest word ∙ ap (λ (b : ℕ). eqb b 1) e)
+    go rest (suc (suc bit)) e l = absurd (omega arith)
+
+-- None below it is.
+pub trailing-none : (k word j : ℕ) → j < count_trailing_zeros k word → is_set word j ≡ false
+unfolding count_trailing_zeros
+trailing-none zero word j h = absurd (omega arith)
+trailing-none (suc k) word j h = go (λ i l. trailing-none k (word / 2) i l) (word % 2) refl j h
+  where
+    go : ((i : ℕ) → i < count_trailing_zeros k (word / 2) → is_set (word / 2) i ≡ false)
+        → (bit : ℕ) → word % 2 ≡ bit → (i : ℕ) → i < count_trailing_zeros (suc k) word → is_set word i ≡ false
+    go rest zero e zero l = lowest word ∙ ap (λ (b : ℕ). eqb b 1) e
+    go rest zero e (suc i) l = sym (halved word i) ∙ rest i (let q = rw e at l in omega arith)
+    go rest (suc bit) e i l = absurd (let q = rw e at l in omega arith)

@@ -113,7 +113,7 @@ module _ (words : List ℕ) where
     rest-first some below =
         record {
           within = omega arith;
-          none_before = λ m l h. rest-member from m l (omega (arith, inside)) ∙ trailing-none (rest from) small some (m - from) (omega arith);
+          none_before = λ m l h. rest-member from m l (omega (arith, inside)) ∙ trailing-none 64 (rest from) (m - from) (omega arith);
           is_in_set = λ h.
               let here : min (from + count_trailing_zeros 64 (rest from)) count ≡ from + count_trailing_zeros 64 (rest from) = omega arith in
               let back : from + count_trailing_zeros 64 (rest from) - from ≡ count_trailing_zeros 64 (rest from) = omega arith in
@@ -125,7 +125,7 @@ module _ (words : List ℕ) where
         small = let l = div-le_self (get_or words (from / 64) 0) (2 ^ (from % 64)) in omega arith
 
         there : is_set (rest from) (count_trailing_zeros 64 (rest from)) ≡ true
-        there = trailing-set (rest from) small some
+        there = trailing-set 64 (rest from) small some
 
         inside : from % 64 + count_trailing_zeros 64 (rest from) < 64
         inside =

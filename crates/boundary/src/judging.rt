@@ -36,7 +36,8 @@ fn judged_numbers(answer: Result<Judged, Refusal>) -> [u64; 3]
     ensures { result ≡ judged_numbers (judged_say answer) }
 {
     match answer {
-        Ok(judged) => [0, 0, judged.met as u64],
+        Ok(Judged::Met { low: _, high: _ }) => [0, 0, 1],
+        Ok(Judged::NotMet { low: _, high: _ }) => [0, 0, 0],
         Err(refusal) => refused(refusal),
     }
 }
@@ -56,7 +57,8 @@ fn tell_figures(answer: Result<Judged, Refusal>, lent: &mut [f64])
     ensures { lent.new ≡ figures_told answer lent.old }
 {
     match answer {
-        Ok(judged) => tell_two(judged.low, judged.high, lent),
+        Ok(Judged::Met { low, high }) => tell_two(low, high, lent),
+        Ok(Judged::NotMet { low, high }) => tell_two(low, high, lent),
         Err(_) => tell_two(0.0, 0.0, lent),
     }
 }

@@ -1,6 +1,7 @@
 // Tests of the ages in a row of a lent table: that they fit (rule 7.3), and that they are 0 (rule 7.4). Callers keep that the row is there.
 // Nothing is refused here.
-ghost use Rattle.std.specs.Prelude.{◌≡◌, ◌+◌, ◌*◌, ◌≤◌, length};
+ghost use Rattle.std.specs.Prelude.{◌≡◌, ℕ, ◌+◌, ◌*◌, ◌≤◌, eqb, length};
+ghost use Rattle.std.specs.List.{list_all};
 ghost use Rattle.rows.specs.Rows.{columns_by};
 ghost use Rattle.tables.specs.Inner.{Loads};
 ghost use Rattle.checker.specs.Checker.{fits, zeroed, row_ages};
@@ -20,12 +21,22 @@ pub(crate) fn row_fits(columns: &[u8], must: &[u8], may: &[u8], blocks: usize, n
     fit
 }
 
+// Whether so many ages are all 0. Each is looked at, and without a jump: so sixteen go at once.
+fn all_zero(ages: &[u8]) -> bool
+    ensures { result ≡ list_all (λ (age : ℕ). eqb age 0) ages.now }
+{
+    let mut zero = true;
+    for age in ages {
+        zero = zero & (*age == 0);
+    }
+    zero
+}
+
 // Whether the ages of row n are all 0.
 pub(crate) fn row_zero(must: &[u8], may: &[u8], blocks: usize, n: usize) -> bool
     requires { (n * blocks + blocks ≤ length must.now) × (n * blocks + blocks ≤ length may.now) }
     ensures { result ≡ zeroed blocks (row_ages blocks must.now may.now n) }
 {
     let base = n * blocks;
-    must[base..base + blocks].iter().all(|age| *age == 0)
-        && may[base..base + blocks].iter().all(|age| *age == 0)
+    all_zero(&must[base..base + blocks]) && all_zero(&may[base..base + blocks])
 }

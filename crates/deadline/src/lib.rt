@@ -13,10 +13,9 @@ use refusals::Refusal;
 
 // Whether the deadline is met, with the low and the high figure.
 #[derive(Clone, Copy)]
-pub struct Judged {
-    pub met: bool,
-    pub low: f64,
-    pub high: f64,
+pub enum Judged {
+    Met { low: f64, high: f64 },
+    NotMet { low: f64, high: f64 },
 }
 
 // What is answered for two totals: refusal 18, or the verdict with their figures.
@@ -34,11 +33,17 @@ fn judge_totals(
     }
     let least = clock::figure(low, sheet);
     let most = clock::figure(high, sheet);
-    Ok(Judged {
-        met: clock::is_met(deadline, least, most),
-        low: least,
-        high: most,
-    })
+    if clock::is_met(deadline, least, most) {
+        Ok(Judged::Met {
+            low: least,
+            high: most,
+        })
+    } else {
+        Ok(Judged::NotMet {
+            low: least,
+            high: most,
+        })
+    }
 }
 
 // Answers for any bytes, lent table, costs, floors, ceilings, clock sheet and deadline: the verdict and both figures (rules 17.3 and 17.4), or the

@@ -24,6 +24,7 @@ use Rattle.deadline.specs.Deadline.{verdict_on, judged_by, judged_totals, judged
 use Rattle.demands.specs.Judging.{JudgedRefusals}
 use Rattle.demands.proofs.Totalling.{totals-numbers, totals_used}
 use Rattle.deadline.specs.declared.Judged.{Judged}
+use Rattle.deadline.specs.declared.Judged.TheVariants.{Met, NotMet}
 use Rattle.totals.specs.declared.Totals.{Totals}
 
 module _ (bytes : List ℕ) (table : Lent) (figures : Figures) (sheet : ClockSheet) (deadline : Deadline) where
@@ -138,11 +139,13 @@ module _ (bytes : List ℕ) (table : Lent) (figures : Figures) (sheet : ClockShe
           by-time false t = absurd (no-refusal (meets deadline (figure_of sheet found.low) (figure_of sheet found.high)) (sym (by-times found.low found.high q false t) ∙ e))
             where
               no-refusal : (met : Bool) → judged_with met (figure_of sheet found.low) (figure_of sheet found.high) ≡ Err refusal → ⊥
-              no-refusal met r = let z : ◌≡◌ {A = ℕ} 0 1 = cc in omega arith
+              no-refusal true r = let z : ◌≡◌ {A = ℕ} 0 1 = cc in omega arith
+              no-refusal false r = let z : ◌≡◌ {A = ℕ} 0 1 = cc in omega arith
 
   bits-said : (given : Result Judged Refusal) → ((judged_say given).low ≡ bits_of (low_figure given)) × ((judged_say given).high ≡ bits_of (high_figure given))
   unfolding to_bits
-  bits-said (Ok given) = (refl, refl)
+  bits-said (Ok (Met low high)) = (refl, refl)
+  bits-said (Ok (NotMet low high)) = (refl, refl)
   bits-said (Err refusal) = (refl, refl)
 
   pub judged-refusals : JudgedRefusals bytes table figures sheet deadline
@@ -161,7 +164,8 @@ module _ (bytes : List ℕ) (table : Lent) (figures : Figures) (sheet : ClockShe
 
 -- What is met is no refusal.
 pub met-number : (given : Result Judged Refusal) → (judged_say given).met ≡ 1 → (judged_say given).number ≡ 0
-met-number (Ok told) e = refl
+met-number (Ok (Met low high)) e = refl
+met-number (Ok (NotMet low high)) e = refl
 met-number (Err refusal) e = absurd (omega arith)
 
 pub judged_used : (bytes : List ℕ) (chart : Chart) (one other : Lent) (figures : Figures) (sheet : ClockSheet) (deadline : Deadline) → read_chart bytes ≡ accepted chart → SameUsed (plan_of chart) one other

@@ -1,3 +1,4 @@
+pub mod Signs
 pub mod Within
 pub mod Sums
 pub mod Asked

@@ -1,10 +1,11 @@
 -- What the functions promise one another: parts that are small, lists that reach far enough, and the tests of rules 18.4, 18.5 and 18.7 by lists.
 -- Nothing here is a rule of the tool: `Facts` and `Certificate` have the rules, and these unfold to them.
-use Rattle.std.specs.Prelude.{ℕ, ◌+◌, ◌*◌, ◌^◌, ◌≤◌, ◌<◌, Bool, true, List, ◌≡◌, eqb, leb, ltb, ℤ, pos, get_or, length}
+use Rattle.std.specs.Prelude.{ℕ, ◌+◌, ◌*◌, ◌^◌, ◌≤◌, ◌<◌, Bool, true, cond, ◌&&◌, List, ◌≡◌, eqb, leb, ltb, ℤ, pos, get_or, length}
 use Rattle.lists.specs.Choice.{every}
+use Rattle.lists.specs.Lists.{list_of}
 use Rattle.facts.specs.declared.parts.Parts.{Parts}
 use Rattle.facts.specs.Parts.{above, below}
-use Rattle.facts.specs.Facts.{Facts, fact_count}
+use Rattle.facts.specs.Facts.{Facts, fact_count, coefficient_at, limit_of, rules_out}
 use Rattle.facts.specs.Certificate.{most_coefficient, most_potential, all_within, multipliers_fit, weighed}
 
 -- ---- small numbers
@@ -67,3 +68,11 @@ higher_by potentials n other =
 -- Rule 18.7: no coefficient of fact f is below 0.
 abbrev pub none_below : ℕ → List ℤ → ℕ → Bool
 none_below nodes coefficients f = every nodes (λ k. eqb (below (get_or coefficients (f * nodes + k) (pos 0))) 0)
+
+-- Rule 18.7: whether fact f rules out the nodes that it counts.
+abbrev pub is_ruling : ℕ → Facts → ℕ → Bool
+is_ruling nodes facts f = eqb (above (limit_of facts f)) 0 && every nodes (λ k. eqb (below (coefficient_at nodes facts f k)) 0)
+
+-- Rule 18.7: 0 for each node that fact f rules out, and for each other what stood there.
+abbrev pub closed : ℕ → Facts → ℕ → List ℕ → List ℕ
+closed nodes facts f before = list_of nodes (λ n. cond (rules_out nodes facts n f) 0 (get_or before n 0))

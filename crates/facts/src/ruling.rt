@@ -1,9 +1,10 @@
 // Which nodes the facts rule out (rule 18.7). Callers keep that each fact has a coefficient for each node.
-ghost use Rattle.std.specs.Prelude.{◌≡◌, ◌+◌, ◌*◌, ◌<◌, ◌≤◌, length};
+ghost use Rattle.std.specs.Prelude.{cond, ◌≡◌, ◌+◌, ◌*◌, ◌<◌, ◌≤◌, length, ltb};
 ghost use Rattle.lists.specs.Lists.{written};
-ghost use Rattle.facts.specs.Facts.{rules_out, ruled_out, openings};
+ghost use Rattle.facts.specs.Parts.{above};
+ghost use Rattle.facts.specs.Facts.{openings};
 ghost use Rattle.facts.specs.Listed.{passed_facts, entry_facts};
-ghost use Rattle.facts.specs.Inner.{FactsLaid, none_below};
+ghost use Rattle.facts.specs.Inner.{FactsLaid, none_below, is_ruling, closed};
 
 // Facts in lent lists: fact after fact, a coefficient for each node, and a limit.
 #[derive(Clone, Copy)]
@@ -26,22 +27,35 @@ impl Listed<'_> {
         own.iter().all(|coefficient| 0 <= *coefficient)
     }
 
-    // Whether fact f rules node n out.
-    fn rules_out(&self, n: usize, f: usize) -> bool
-        requires n_lt_nodes { n < self.now.nodes }
-        requires f_in_bounds { f < length self.now.limits.now }
-        ensures { result ≡ rules_out self.now.nodes (facts_in self.now) n f }
+    // Whether fact f rules out what it counts: its limit is not above 0, and no coefficient is below.
+    fn is_ruling(&self, f: usize) -> bool
+        requires { f < length self.now.limits.now }
+        ensures { result ≡ is_ruling self.now.nodes (facts_in self.now) f }
     {
-        0 < self.coefficients[f * self.nodes + n] && self.limits[f] <= 0 && self.none_below(f)
+        self.limits[f] <= 0 && self.none_below(f)
     }
 
-    // Whether some fact rules node n out.
-    fn is_ruled_out(&self, n: usize) -> bool
-        requires { n < self.now.nodes }
-        ensures { result ≡ ruled_out self.now.nodes (facts_in self.now) n }
+    // Writes 0 for each node that fact f rules out, and leaves all else: whether the fact rules at all is asked once for all nodes.
+    fn close(&self, f: usize, out: &mut [u16])
+        requires f_in_bounds { f < length self.now.limits.now }
+        requires nodes_in_bounds { self.now.nodes ≤ length out.old }
+        ensures { out.new ≡ written (closed self.now.nodes (facts_in self.now) f out.old) out.old }
     {
-        (0..self.limits.len()).any(|f| self.rules_out(n, f))
+        if !self.is_ruling(f) {
+            return;
+        }
+        let own = &self.coefficients[f * self.nodes..f * self.nodes + self.nodes];
+        for (n, open) in out[..self.nodes].iter_mut().enumerate() {
+            *open = left_open(*open, own[n]);
+        }
     }
+}
+
+// What stands for a node that a ruling fact counts so often: 0, or what stood there.
+fn left_open(before: u16, coefficient: i64) -> u16
+    ensures { result ≡ cond (ltb 0 (above coefficient)) 0 before }
+{
+    if 0 < coefficient { 0 } else { before }
 }
 
 // Writes 0 for each node that is ruled out, and 1 for each other.
@@ -55,7 +69,8 @@ pub fn write_openings(coefficients: &[i64], limits: &[i64], nodes: usize, out: &
         limits,
         nodes,
     };
-    for (n, open) in out[..nodes].iter_mut().enumerate() {
-        *open = u16::from(!facts.is_ruled_out(n));
+    out[..nodes].fill(1);
+    for f in 0..limits.len() {
+        facts.close(f, out);
     }
 }

@@ -4,7 +4,7 @@ use Prim.Native.Nat.{ℕ, ◌+◌, ◌^◌, ◌≤◌, ◌<◌}
 use mathlib.Core.Bool.{Bool, true, false, cond, not, ◌&&◌, ◌||◌, true≢false}
 use mathlib.Core.List.{List}
 use mathlib.Core.Logic.{◌⊎◌, inr, ⊎_elim}
-use mathlib.Core.Path.{◌≡◌, refl, sym, ap, ◌∙◌}
+use mathlib.Core.Path.{◌≡◌, refl, sym, ap, subst, ◌∙◌}
 use native.Mathlib.Decide.{ℕ_discrete}
 use native.Mathlib.Omega.{arith}
 use borrow.Author.Tests.{lt-ltb, le-ltb, ltb-true, eq-eqb, ne_eqb, eqb-true, eqb-false}
@@ -19,10 +19,10 @@ use Rattle.lists.proofs.Loops.{length-patch, patch-in0}
 use Rattle.lists.proofs.Orders.{below_or}
 use Rattle.chart.specs.Geometry.{most_blocks}
 use Rattle.plan.specs.Listed.{nodes_in, blocks_in, node_in, RecordIn, Drawn}
-use Rattle.plan.proofs.Holding.{record-in}
+use Rattle.plan.proofs.Holding.{record-in, record-fits}
 use Rattle.bits.specs.Bits.{is_set, without}
 use Rattle.keeping.specs.Words.{Grouped, Chosen, Touchable, TouchableBy}
-use Rattle.keeping.specs.Columns.{RecordsTouchable, group_of}
+use Rattle.keeping.specs.Columns.{RecordsIn, RecordsTouchable, group_of}
 use Rattle.keeping.specs.Choosing.{most_keys, SetsListed, picked, picked_all, TakenOut}
 use Rattle.bits.proofs.Bits.{set-and, set-or, set-without, set-none, set-one, trailing-set}
 use Rattle.plan.specs.declared.ColumnTouches.{ColumnTouches}
@@ -34,10 +34,10 @@ picked-member members left block small some = go (is_set members block) refl (eq
     go : (t : Bool) → is_set members block ≡ t → (z : Bool) → eqb (bit_and left members) 0 ≡ z
         → is_set members (cond t block (cond z (count_trailing_zeros 64 members) (count_trailing_zeros 64 (bit_and left members)))) ≡ true
     go true e z d = e
-    go false e true d = trailing-set members small some
+    go false e true d = trailing-set 64 members small some
     go false e false d =
         let less = and_le_r left members in
-        let found : is_set (bit_and left members) (count_trailing_zeros 64 (bit_and left members)) ≡ true = trailing-set (bit_and left members) (omega arith) (eqb-false (bit_and left members) 0 d) in
+        let found : is_set (bit_and left members) (count_trailing_zeros 64 (bit_and left members)) ≡ true = trailing-set 64 (bit_and left members) (omega arith) (eqb-false (bit_and left members) 0 d) in
         (and-true (is_set left (count_trailing_zeros 64 (bit_and left members))) (is_set members (count_trailing_zeros 64 (bit_and left members))) (sym (set-and left members (count_trailing_zeros 64 (bit_and left members))) ∙ found)).1
 
 module _ (columns sets : List ℕ) (count : ℕ) (listed : SetsListed columns count sets) (narrow : (key : ℕ) → get_or sets key 0 < 2 ^ 64) (keys : (m : ℕ) → get_or columns m 0 < most_keys) where
@@ -78,13 +78,23 @@ module _ (columns sets : List ℕ) (count : ℕ) (listed : SetsListed columns co
         ∙ ap (λ (t : Bool). cond t block (cond (eqb (bit_and left (members_of block)) 0) (count_trailing_zeros 64 (members_of block)) (count_trailing_zeros 64 (bit_and left (members_of block)))))
         (member block block inside ∙ eq-eqb (get_or columns block 0) (get_or columns block 0) refl)
 
+pub sets-counted : (columns sets : List ℕ) (count blocks : ℕ) → blocks ≡ count → SetsListed columns blocks sets → SetsListed columns count sets
+sets-counted columns sets count blocks same listed = subst (λ (k : ℕ). SetsListed columns k sets) same listed
+
 -- A round: where the count is known by an equation.
-pub round-chosen : (columns sets : List ℕ) (count blocks : ℕ) → blocks ≡ count → count ≤ most_blocks → SetsListed columns count sets → ((key : ℕ) → get_or sets key 0 < 2 ^ 64) → ((m : ℕ) → get_or columns m 0 < most_keys)
+pub round-chosen : (columns sets : List ℕ) (count blocks : ℕ) → blocks ≡ count → SetsListed columns count sets → ((key : ℕ) → get_or sets key 0 < 2 ^ 64) → ((m : ℕ) → get_or columns m 0 < most_keys)
+    → (left block : ℕ) → block < count → (before chosen : List ℕ) → count ≤ length before → chosen ≡ picked_all columns sets left block blocks before
+    → Grouped count (group_of columns chosen sets) × Chosen chosen block
+round-chosen columns sets count blocks same listed narrow keys left block inside before chosen room e =
+    let is : chosen ≡ picked_all columns sets left block count before = e ∙ ap (λ (k : ℕ). picked_all columns sets left block k before) same in
+    (chosen-grouped columns sets count listed narrow keys left block inside before chosen room is, block-chosen columns sets count listed narrow keys left block inside before chosen room is)
+
+-- The same, of a list that was zeros before.
+pub new-round : (columns sets : List ℕ) (count blocks : ℕ) → blocks ≡ count → count ≤ most_blocks → SetsListed columns count sets → ((key : ℕ) → get_or sets key 0 < 2 ^ 64) → ((m : ℕ) → get_or columns m 0 < most_keys)
     → (left block : ℕ) → block < count → (chosen : List ℕ) → chosen ≡ picked_all columns sets left block blocks (replicate most_blocks 0)
     → Grouped count (group_of columns chosen sets) × Chosen chosen block
-round-chosen columns sets count blocks same few listed narrow keys left block inside chosen e =
-    let is : chosen ≡ picked_all columns sets left block count (replicate most_blocks 0) = e ∙ ap (λ (k : ℕ). picked_all columns sets left block k (replicate most_blocks 0)) same in
-    (chosen-grouped columns sets count listed narrow keys left block inside (replicate most_blocks 0) chosen few is, block-chosen columns sets count listed narrow keys left block inside (replicate most_blocks 0) chosen few is)
+new-round columns sets count blocks same few listed narrow keys left block inside chosen e =
+    round-chosen columns sets count blocks same listed narrow keys left block inside (replicate most_blocks 0) chosen few e
 
 -- Some block is chosen where there is one.
 pub first-chosen : (count : ℕ) (columns chosen sets : List ℕ) → 0 < count → Grouped count (group_of columns chosen sets) → (get_or chosen 0 0 < count) × Chosen chosen (get_or chosen 0 0)
@@ -113,6 +123,9 @@ module _ (columns plan : List ℕ) (drawn : Drawn columns plan) (chosen sets : L
   pub records-touchable : RecordsTouchable (group_of columns chosen sets) plan nodes
   records-touchable n h =
       record-touchable columns chosen sets (blocks_in plan) grouped drawn.few_blocks drawn.columns_long (node_in plan n).what (record-in columns plan drawn n (omega arith))
+
+  pub records-in : RecordsIn (length chosen) plan nodes
+  records-in n h = record-fits (blocks_in plan) (length chosen) grouped.chosen_room (node_in plan n).what (record-in columns plan drawn n (omega arith))
 
 -- ---- turns of loops
 

@@ -21,7 +21,9 @@ fn nodes_of(chart: &[u8]) -> usize
     chart::read_header(chart).map_or(0, |header| header.nodes)
 }
 
-// The report of any bytes, analysed in buffers of zeros for the largest chart.
+// The report of any bytes, analysed in buffers of zeros for the largest chart. Put in place where it is called, its text would stand on the stack once
+// more beside the caller's.
+#[inline(never)]
 fn report_bytes(chart: &[u8]) -> Text
     ensures value { result ≡ text_left chart.now (analysed chart.now all_passes (zero_buffers most_nodes most_blocks)) }
     ensures size_le_most_text { result.size ≤ most_text }

@@ -39,8 +39,8 @@ fn print_totals(rt: &impl Print, answer: Result<Totals, Refusal>) -> io::Result<
 // Writes what was answered for a deadline.
 fn print_judged(rt: &impl Print, answer: Result<Judged, Refusal>) -> io::Result<()> {
     match answer {
-        Ok(judged) if judged.met => println!(rt; "the deadline is met"),
-        Ok(_) => println!(rt; "the deadline is not met"),
+        Ok(Judged::Met { low: _, high: _ }) => println!(rt; "the deadline is met"),
+        Ok(Judged::NotMet { low: _, high: _ }) => println!(rt; "the deadline is not met"),
         Err(refusal) => println!(rt; "{refusal}"),
     }
 }

@@ -78,7 +78,8 @@ fn touch_row(
 }
 
 // Makes two lists begin with the ages of row n after a record, touch by touch; after a bare step they are those of the row (rule 6.5). What stands in the
-// lists past the blocks is free.
+// lists past the blocks is free. Put in place where it is called, at each node: called, it takes some of its twelve words out of memory.
+#[inline(always)]
 pub fn row_after(
     must: &[u8],
     may: &[u8],

@@ -6,6 +6,10 @@ pub returns-then-is_impossible : goal.returns-then-is_impossible
 unfolding judged_by
 returns-then-is_impossible c = rw (sym c.is_impossible.ensures ∙ c.if-is_impossible.true)
 
-pub returns : goal.returns
+pub returns-then-is_met : goal.returns-then-is_met
 unfolding judged_by
-returns c = rw (sym c.is_impossible.ensures ∙ c.if-is_impossible.false, ← c.figure-least.ensures, ← c.figure-most.ensures, ← c.is_met.ensures)
+returns-then-is_met c = rw (sym c.is_impossible.ensures ∙ c.if-is_impossible.false, ← c.figure-least.ensures, ← c.figure-most.ensures, sym c.is_met.ensures ∙ c.if-is_met.true)
+
+pub returns-else-is_met : goal.returns-else-is_met
+unfolding judged_by
+returns-else-is_met c = rw (sym c.is_impossible.ensures ∙ c.if-is_impossible.false, ← c.figure-least.ensures, ← c.figure-most.ensures, sym c.is_met.ensures ∙ c.if-is_met.false)

@@ -2,7 +2,7 @@ use Prim.Native.Nat.{◌+◌, ◌<◌}
 use native.Mathlib.Omega.{arith}
 use Rattle.plan.specs.Listed.{blocks_in}
 use Rattle.keeping.proofs.Beginning.{all-reached}
-use Rattle.keeping.proofs.Chosen.{round-chosen, records-touchable}
+use Rattle.keeping.proofs.Chosen.{new-round, records-touchable}
 use Rattle.keeping.proofs.Told.{told-on, told-up-to, all_told}
 use Rattle.keeping.proofs.stays.tell_others.Goals as goal
 
@@ -12,7 +12,7 @@ flood_again-requires-clause-group_in c = let a = c.args in
     let blocks = c.blocks_in-blocks in
     let nodes = c.nodes_in-nodes in
     let inside : l.block < blocks_in a.plan.now = omega (arith, c.loop-block-test.true, blocks.ensures) in
-    let round = round-chosen a.columns.now a.sets.now (blocks_in a.plan.now) blocks.result blocks.ensures c.requires.drawn_in.few_blocks c.requires.sets_listed (λ key. omega (arith, c.fits-sets key)) (λ m. omega (arith, c.type_inv.columns m)) l.left l.block inside _ c.choose.ensures in
+    let round = new-round a.columns.now a.sets.now (blocks_in a.plan.now) blocks.result blocks.ensures c.requires.drawn_in.few_blocks c.requires.sets_listed (λ key. omega (arith, c.fits-sets key)) (λ m. omega (arith, c.type_inv.columns m)) l.left l.block inside _ c.choose.ensures in
     (round.0, omega (arith, inside))
 
 pub tell_chosen-requires-clause-records_touchable : goal.tell_chosen-requires-clause-records_touchable
@@ -21,7 +21,7 @@ tell_chosen-requires-clause-records_touchable c = let a = c.args in
     let blocks = c.blocks_in-blocks in
     let nodes = c.nodes_in-nodes in
     let inside : l.block < blocks_in a.plan.now = omega (arith, c.loop-block-test.true, blocks.ensures) in
-    let round = round-chosen a.columns.now a.sets.now (blocks_in a.plan.now) blocks.result blocks.ensures c.requires.drawn_in.few_blocks c.requires.sets_listed (λ key. omega (arith, c.fits-sets key)) (λ m. omega (arith, c.type_inv.columns m)) l.left l.block inside _ c.choose.ensures in
+    let round = new-round a.columns.now a.sets.now (blocks_in a.plan.now) blocks.result blocks.ensures c.requires.drawn_in.few_blocks c.requires.sets_listed (λ key. omega (arith, c.fits-sets key)) (λ m. omega (arith, c.type_inv.columns m)) l.left l.block inside _ c.choose.ensures in
     records-touchable a.columns.now a.plan.now c.requires.drawn_in _ a.sets.now round.0 nodes.result nodes.ensures
 
 pub loop-block-preserved : goal.loop-block-preserved
@@ -30,7 +30,7 @@ loop-block-preserved c = let a = c.args in
     let blocks = c.blocks_in-blocks in
     let nodes = c.nodes_in-nodes in
     let inside : l.block < blocks_in a.plan.now = omega (arith, c.loop-block-test.true, blocks.ensures) in
-    let round = round-chosen a.columns.now a.sets.now (blocks_in a.plan.now) blocks.result blocks.ensures c.requires.drawn_in.few_blocks c.requires.sets_listed (λ key. omega (arith, c.fits-sets key)) (λ m. omega (arith, c.type_inv.columns m)) l.left l.block inside _ c.choose.ensures in
+    let round = new-round a.columns.now a.sets.now (blocks_in a.plan.now) blocks.result blocks.ensures c.requires.drawn_in.few_blocks c.requires.sets_listed (λ key. omega (arith, c.fits-sets key)) (λ m. omega (arith, c.type_inv.columns m)) l.left l.block inside _ c.choose.ensures in
     let flooding = c.flood_again in
     let telling = c.tell_chosen in
     let taking = c.left_after-left in
